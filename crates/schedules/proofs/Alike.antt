@@ -1,5 +1,5 @@
 -- A loop among the threads, and the same loop of the world, where a step that is under way has not begun.
-use Rattle.std.proofs.Common.{◌≡◌, ℕ, zero, suc, List, [], ◌∷◌, ◌++◌, map, Option, Some, None, refl, sym, ap, subst, ◌∙◌}
+use Rattle.std.proofs.Common.{◌≡◌, ℕ, zero, suc, List, [], ◌∷◌, ◌++◌, map, Option, Some, None, refl, sym, ap, ◌∙◌}
 use Rattle.std.specs.Prelude.{slice_get, slice_set}
 use Rattle.phases.specs.State.{Setting, Core}
 use Rattle.desk.specs.Desk.{Desk}
@@ -50,7 +50,7 @@ alike_at n (x ∷ ps) [] qs p all at = absurd all
 alike_at n (x ∷ ps) (u ∷ us) [] p all at = absurd all
 alike_at zero (x ∷ ps) (u ∷ us) (q ∷ qs) p all at =
     let same : x ≡ p = cc in
-    record { step = u; core = q; at_step = refl; at_core = refl; alike = subst (λ y. Alike y u q) same all.0 }
+    record { step = u; core = q; at_step = refl; at_core = refl; alike = (rw same at all.0) }
 alike_at (suc n) (x ∷ ps) (u ∷ us) (q ∷ qs) p all at =
     let it = alike_at n ps us qs p all.1 at in
     record { step = it.step; core = it.core; at_step = it.at_step; at_core = it.at_core; alike = it.alike }
@@ -75,7 +75,7 @@ alike_set n _ _ _ p u q h all = absurd all
 -- where no step is under way both are the same
 pub alike_between : (n : ℕ) (ps : List (Core Desk)) (us : List (Option StepUnderway)) (qs : List (Core Desk)) → slice_get us n ≡ Some None → AllAlike ps us qs → slice_get qs n ≡ slice_get ps n
 alike_between n [] [] [] between all = refl
-alike_between zero (x ∷ ps) (v ∷ us) (y ∷ qs) between all = let same : v ≡ None = cc in ap Some (subst (λ k. Alike x k y) same all.0)
+alike_between zero (x ∷ ps) (v ∷ us) (y ∷ qs) between all = let same : v ≡ None = cc in ap Some (rw same at all.0)
 alike_between (suc n) (x ∷ ps) (v ∷ us) (y ∷ qs) between all = alike_between n ps us qs between all.1
 alike_between n _ _ _ between all = absurd all
 

@@ -127,13 +127,13 @@ module _ {S : Type 0} (calls : Calls S) (lawful : IsLawful calls) (g : Setting) 
 
     shut_event : (e : Event) (old new : Loop S) → IsInThread e → EventStep calls g e old new → ShutAt old.state.requests old.shared → ShutAt new.state.requests new.shared
     shut_event (Stepped did emits made) old new own h p = step_kept calls g ShutAt shut_kept did made new old h.0 p
-    shut_event (OrderAsked order) old new own h p = subst (λ (l : Loop S). ShutAt l.state.requests l.shared) (sym h.1) (shut_next old.state old.shared p)
+    shut_event (OrderAsked order) old new own h p = rw h.1 (shut_next old.state old.shared p)
     shut_event (EndOffered o end true) old new own h p =
-        subst (λ (l : Loop S). ShutAt l.state.requests l.shared) (sym h.1.1) (shut_staged c old.state.requests (calls.view old.shared) o.request (Answered end) (λ same. refl) p)
-    shut_event (EndOffered o end false) old new own h p = subst (λ (l : Loop S). ShutAt l.state.requests l.shared) (sym h.1.1) p
-    shut_event (ClockRaised ms) old new own h p = subst (λ (l : Loop S). ShutAt l.state.requests l.shared) (sym h) p
+        rw h.1.1 (shut_staged c old.state.requests (calls.view old.shared) o.request (Answered end) (λ same. refl) p)
+    shut_event (EndOffered o end false) old new own h p = rw h.1.1 p
+    shut_event (ClockRaised ms) old new own h p = rw h p
     shut_event MovedBeside old new own h p =
-        subst (λ (s : State). ShutAt s.requests new.shared) (sym h.state) (subst (IsShut c old.state.requests) (sym h.view) p)
+        rw h.state (subst (IsShut c old.state.requests) (sym h.view) p)
     shut_event _ old new own h p = absurd own
 
     pub shut_along : (passed : List (Passed S)) (old now : Loop S) → AreInThread passed → PassesThrough calls g old passed now

@@ -89,20 +89,19 @@ module _ (joins : RunsJoin) (all : ℕ) (t : Threads) (ls : List (Core Desk)) (w
 
   -- it goes on
   goes_on : (n : ℕ) (told : List LogEntry) (t' : Threads) → GoesOnStep t n told t' → On told t'
-  goes_on n told t' h = subst (λ x. On told x) (sym h.after) (subst (λ xs. On xs next) (sym h.silent) (record {
+  goes_on n told t' h = rw (h.after, h.silent) (record {
     loops = ls;
     workers = ws;
     bag = bag;
     hand = hand;
     runs = run_none w used [] (λ l. refl);
     alike =
-        subst (λ qs. AllAlike next.world.loops next.steps qs) (set_same ls n q.0 q.1)
-        (alike_set n t.world.loops t.steps ls (core h.setting (sharing h.old h.desk)) (Some (record h.step { ahead = h.ahead })) q.0
+        rw (set_same ls n q.0 q.1) at (alike_set n t.world.loops t.steps ls (core h.setting (sharing h.old h.desk)) (Some (record h.step { ahead = h.ahead })) q.0
         (behind_next h.setting h.old h.step q.0 q.2 h.access h.ahead h.desk h.moves h.front) alike);
     hands = hands;
     jobs = jobs_are;
     room = more_room [];
-  })) where
+  }) where
     next : Threads
     next = record {
       world = with_loop t.world n h.setting (sharing h.old h.desk);
@@ -138,7 +137,7 @@ module _ (joins : RunsJoin) (all : ℕ) (t : Threads) (ls : List (Core Desk)) (w
         (λ i. refl) (once_quiet used entry (λ k. untaken_step k n u.did u.state.emits)) in
         let two = run_sends t.world ws n used joins mid (core g after_step) l.shared b.late (set_here ls n (core g after_step) q behind.1) b.gets in
         let both = run_join joins w (beside t.world mid ws) (beside t.world (slice_set mid n (core g ended)) ws) used used used (entry ∷ []) [] one two in
-        subst (λ xs. Runs w used (entry ∷ []) (beside t.world xs ws) used) (set-set ls n (core g after_step) (core g ended)) both
+        rw (set-set ls n (core g after_step) (core g ended)) at both
 
   ends : (n : ℕ) (told : List LogEntry) (t' : Threads) → EndsStep t n told t' → On told t'
   ends n told t' h = rw (h.after, h.line) (record {
@@ -343,8 +342,7 @@ module _ (joins : RunsJoin) (all : ℕ) (t : Threads) (ls : List (Core Desk)) (w
         )
             (λ i. silent_as entry (line.Start n (start.Begun (job_of o))) told (λ j. refl) i) (once_quiet used line' (λ k. refl));
         alike =
-            rw after (subst (λ us. AllAlike (slice_set t.world.loops place (core g m)) us Ls) (set_same t.steps place it.step it.at_step)
-            (alike_set place t.world.loops t.steps ls (core g m) it.step _ begun.1 alike));
+            rw after (rw (set_same t.steps place it.step it.at_step) at (alike_set place t.world.loops t.steps ls (core g m) it.step _ begun.1 alike));
         hands = rw after (hand_goes all bag hand t.world.workers ws hands n (Taken o) (Started o) held refl);
         jobs = ap (λ (x : World). x.jobs) after ∙ jobs_are;
         room = more_room (entry ∷ []);
@@ -479,8 +477,8 @@ module _ (joins : RunsJoin) (all : ℕ) (t : Threads) (ls : List (Core Desk)) (w
             (ap (λ (x : Core Desk). core x.setting (sharing x.loop m.shared)) same ∙ ap (core g) (sym sent_is))
         by (Some u) b now later = received (behind_sent g l u it.core b a m.shared below moves) where
           received : Received g l u it.core b a m.shared → On (entry ∷ []) next
-          received (inl x) = now x.0 (subst (λ y. IsBehind (core g y) u (core it.core.setting (sharing it.core.loop m.shared))) (sym sent_is) x.1)
-          received (inr x) = later (subst (λ y. IsBehind (core g y) u it.core) (sym sent_is) x)
+          received (inl x) = now x.0 (rw (sym sent_is) at x.1)
+          received (inr x) = later (rw (sym sent_is) at x)
 
     sends_to : (n a : ℕ) → SendsTo t.world n a entry r' → On (entry ∷ []) next
     sends_to n a h = sends n a h.0 h.1 h.2 h.4 h.5 h.6.1 h.6.2 (silent_as entry (line.Send n a (not h.3)) h.7 (λ l. refl)) h.8 h.3 h.6.0

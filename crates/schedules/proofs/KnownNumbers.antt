@@ -70,7 +70,7 @@ module _ (ls : List (Core Desk)) (n : ℕ) (g : Setting) (l m : Loop Desk) (at :
     by : ((k ≡ n) × (p ≡ core g m)) ⊎ ((k ≢ n) × (slice_get ls k ≡ Some p)) → IsPlaced k p
     by (inl it) =
         let place : g.loop_no ≡ k = (h n (core g l) at).place ∙ sym it.0 in
-        subst (IsPlaced k) (sym it.1) (record { place = place; own = subst (λ i. AreOwn i m.state.requests.last m.state.requests.outstanding) place numbered.own })
+        subst (IsPlaced k) (sym it.1) (record { place = place; own = (rw place at numbered.own) })
     by (inr it) = h k p it.1
 
 module _ (w w' : World) (s : Stands w) where

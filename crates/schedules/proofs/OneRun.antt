@@ -157,13 +157,12 @@ module _ {S : Type 0} (calls : Calls S) (lawful : IsLawful calls) (joins : RunsJ
           let shut = subst (λ (l : Loop S). IsShut (o.slot, o.request) l.state.requests (calls.view l.shared)) (sym h.1.1) (answered_shut r o end h.1.0) in
           let live = (shut_along calls lawful g (o.slot, o.request) passed p.new now rest through shut).none in
           nothing_handed p.new (lines_of g.loop_no old.state (EndOffered o end true))
-          (subst (λ (l : Loop S). GoesTo calls lawful g gone w l (lines_of g.loop_no old.state (EndOffered o end true)) handed next left) (sym h.1.1)
-          (takes_reply calls lawful g gone w old handed next left r o end h.0 h.1.0 it.0 it.1.0 it.1.1 live))
+          (rw h.1.1 (takes_reply calls lawful g gone w old handed next left r o end h.0 h.1.0 it.0 it.1.0 it.1.1 live))
       by (EndOffered o end false) is own h r =
-          nothing_handed p.new [] (subst (λ (l : Loop S). GoesTo calls lawful g gone w l [] handed next left) (sym h.1.1) (rests calls lawful g gone w old handed next left r))
+          nothing_handed p.new [] (rw h.1.1 (rests calls lawful g gone w old handed next left r))
       by (ClockRaised ms) is own h r =
           nothing_handed p.new (lines_of g.loop_no old.state (ClockRaised ms))
-          (subst (λ (l : Loop S). GoesTo calls lawful g gone w l (lines_of g.loop_no old.state (ClockRaised ms)) handed next left) (sym h) (clocked calls lawful g gone w old handed next left r ms))
+          (rw h (clocked calls lawful g gone w old handed next left r ms))
       by MovedBeside is own h r = nothing_handed p.new [] (rests calls lawful g gone w p.new handed next left (moved p.new h r))
       by _ is own h r = absurd own
 
@@ -180,7 +179,7 @@ module _ {S : Type 0} (calls : Calls S) (lawful : IsLawful calls) (joins : RunsJ
     goes_all [] old w handed next left own h behind r = record {
       handed = handed;
       next = next;
-      goes = subst (λ (l : Loop S). GoesTo calls lawful g gone w l [] handed next left) (sym h) (rests calls lawful g gone w old handed next left r);
+      goes = rw (sym h) at (rests calls lawful g gone w old handed next left r);
     }
     goes_all (p ∷ passed) old w handed next left own h behind r =
         let wide = (event_grows calls lawful g p.event old p.new own.0 h.0 r.stands.wide).wide in
@@ -223,7 +222,7 @@ module _ {S : Type 0} (calls : Calls S) (lawful : IsLawful calls) (joins : RunsJ
       each = λ q at. absurd at;
       one = λ a b at_a. absurd at_a;
       known = λ c some. absurd (let it : 0 < 0 = some in omega (arith, it));
-      few = λ c some. absurd (let it : 0 < 0 = subst (λ (v : View). 0 < times c v.cancelled) opens.shared some in omega (arith, it));
+      few = λ c some. absurd (let it : 0 < 0 = rw opens.shared at some in omega (arith, it));
     })
 
     starts : slice_get w.loops g.loop_no ≡ Some (opening_loop g) → w.jobs ≡ [] → slice_get w.replies g.loop_no ≡ Some []

@@ -1,6 +1,6 @@
 -- What a loop does over its object, it does at a desk where each request that was handed out, and is never cancelled, was started
 -- at once.
-use Rattle.std.proofs.Common.{◌≡◌, ℕ, ◌+◌, ◌<◌, ◌≤◌, ◌==◌, ◌&&◌, ◌⊎◌, inl, inr, Bool, true, false, cond, List, [], ◌∷◌, ◌++◌, length, Option, Some, None, refl, sym, ap, subst, ◌∙◌, arith}
+use Rattle.std.proofs.Common.{◌≡◌, ℕ, ◌+◌, ◌<◌, ◌≤◌, ◌==◌, ◌&&◌, ◌⊎◌, inl, inr, Bool, true, false, cond, List, [], ◌∷◌, ◌++◌, length, Option, Some, None, refl, sym, ap, ◌∙◌, arith}
 use Rattle.std.specs.Prelude.{slice_index, slice_set}
 use Rattle.std.proofs.lemmas.Bool.{cases_lt, eq-eqb, ne_eqb}
 use Rattle.limits.specs.declared.TheConstants.{MAX_ASYNCS}
@@ -130,7 +130,7 @@ module _ (handed gone : List (ℕ × ℕ)) where
     taken_there : (a n : ℕ) → a < MAX_ASYNCS → EndsSo w → Taken d.view w a n → Grows v w → (e : Desk) × DeskTakes d a n e × Stands w e
     taken_there a n there ends h grows = (
       taken d a,
-      (count, refl, subst (λ (x : View). slice_index d.view.own a ≤ slice_index x.taken a) known h.1, h.2),
+      (count, refl, rw known at h.1, h.2),
       moved (taken d a) grows (sym known) (ap (λ (xs : List ℕ). slice_set xs a 0) r.waits) refl,
     ) where
       own : slice_index w.own a ≡ slice_index d.view.own a
@@ -185,7 +185,7 @@ module _ (handed gone : List (ℕ × ℕ)) where
     takes_there old None s' d few r h ends = (d, refl, still old.shared s' d h r)
     takes_there old (Some own) s' d few r h ends =
         taken_there (calls.view old.shared) (calls.view s') d r own.0 own.1 (async_below old.state own.0 h.0.0 few h.0.1) ends
-        (subst (λ (x : View). Taken x (calls.view s') own.0 own.1) (sym r.known) (lawful.takes old.shared s' own.0 own.1 h.1))
+        (rw r.known (lawful.takes old.shared s' own.0 own.1 h.1))
         (takes_grow calls lawful old (Some own) s' h r.wide)
 
     -- a step, which leaves what the loop knows as in the end

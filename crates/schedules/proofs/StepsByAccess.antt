@@ -1,5 +1,5 @@
 -- A step of a loop over its desk, as a step by its accesses.
-use Rattle.std.proofs.Common.{◌≡◌, ℕ, List, [], ◌∷◌, Option, Some, None, refl, subst}
+use Rattle.std.proofs.Common.{◌≡◌, ℕ, List, [], ◌∷◌, Option, Some, None, refl}
 use Rattle.instance.specs.Store.{Store}
 use Rattle.events.specs.declared.did.StepDid.{StepDid}
 use Rattle.phases.specs.Guests.{GuestCall}
@@ -17,7 +17,7 @@ module _ (e : Desk) where
   Leads accesses d = Reach d accesses e
 
   front : (all rest : List Access) (a : Access) (d : Desk) → Leads all d → all ≡ a ∷ rest → (mid : Desk) × AccessMoves d a mid × Leads rest mid
-  front all rest a d leads is = subst (λ xs. Reach d xs e) is leads
+  front all rest a d leads is = rw is at leads
 
   leading : IsMirrored listed_calls desk_calls Anyhow Leads
   leading = record {

@@ -28,11 +28,11 @@ module _ (joins : RunsJoin) (all : ℕ) where
       → AllAlike t.world.loops t.steps ls
       → AreHeld all bag hand t.world.workers ws → t.world.jobs ≡ waiting bag → Stands (beside t.world ls ws) → length bag + jobs_in log ≤ all
       → ThreadsRun t atoms log t' → Ran all t ls ws (length bag) log t'
-  ran [] t ls ws bag hand log t' alike hands jobs stands room h = subst (λ x. Ran all t ls ws (length bag) log x) (sym h.1) (record {
+  ran [] t ls ws bag hand log t' alike hands jobs stands room h = rw h.1 (record {
     loops = ls;
     workers = ws;
     to = length bag;
-    runs = subst (λ xs. Runs (beside t.world ls ws) (length bag) xs (beside t.world ls ws) (length bag)) (sym h.0) (run_none (beside t.world ls ws) (length bag) [] (λ l. refl));
+    runs = rw h.0 (run_none (beside t.world ls ws) (length bag) [] (λ l. refl));
     alike = alike;
   })
   ran (a ∷ atoms) t ls ws bag hand log t' alike hands jobs stands room h =

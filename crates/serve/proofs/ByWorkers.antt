@@ -1,5 +1,5 @@
 -- The after-work callbacks of a loop in one account of all threads.
-use Rattle.std.proofs.Common.{◌≡◌, inl, inr, ℕ, true, List, ◌∷◌, Some, refl, sym, ap, subst, ◌∙◌}
+use Rattle.std.proofs.Common.{◌≡◌, inl, inr, ℕ, true, List, ◌∷◌, Some, refl, sym, ap, ◌∙◌}
 use Rattle.std.specs.Prelude.{slice_get}
 use Rattle.std.specs.List.{Contains}
 use Rattle.std.proofs.lemmas.List.Elements.{Contains-append_left}
@@ -73,7 +73,7 @@ module _ (once : IsAfterOnce thread_calls) (own : IsAfterOwn thread_calls) (last
         let given = ends.own request before behind did out made (ended.1 ∙ is) after in
         let reply = answered_by g ended.0.done.start ended.0.done.opens before request did made given kept in
         let there = Contains-append_left before (Stepped did out made ∷ behind) (EndOffered given.own.request.order reply.end true) reply.offered in
-        let place = place_of events (EndOffered given.own.request.order reply.end true) (subst (λ es. Contains es (EndOffered given.own.request.order reply.end true)) (sym is) there) in
+        let place = place_of events (EndOffered given.own.request.order reply.end true) (rw (sym is) at there) in
         record {
           given = given;
           end = reply.end;

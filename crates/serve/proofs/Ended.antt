@@ -1,5 +1,5 @@
 -- What a loop that has ended in its thread gives back.
-use Rattle.std.proofs.Common.{◌≡◌, ℕ, ◌+◌, List, [], ◌++◌, append-nil, refl, sym, ap, subst, ◌∙◌}
+use Rattle.std.proofs.Common.{◌≡◌, ℕ, ◌+◌, List, [], ◌++◌, append-nil, sym, ◌∙◌}
 use Rattle.std.proofs.Math.Logic.{∥∥₁_map}
 use Rattle.std.specs.Prelude.{option_to_list}
 use Rattle.claims.specs.declared.seats.Ticket.{Ticket}
@@ -20,7 +20,7 @@ module _ {J : Type 0} (ticket : J → Ticket) (t : LoopThread J) where
       → DidEvents ticket t.recorded.core.setting ending t.recorded.emits.items t.pass
   did ending ends tied = record {
     ended = record { now = t.recorded.core.loop; ran = t.recorded.ran; few = t.recorded.few; done = tied.done; ends = ends };
-    tied = subst (λ n. IsTied ticket n t.pass [] tied.done.events) (sym t.numbered) (tied_less ticket t.loop_no t.pass (option_to_list t.kept) tied.done.events tied.tied);
+    tied = rw t.numbered (tied_less ticket t.loop_no t.pass (option_to_list t.kept) tied.done.events tied.tied);
     found = tied.behind.found;
   }
 
@@ -28,8 +28,7 @@ module _ {J : Type 0} (ticket : J → Ticket) (t : LoopThread J) where
       → LoopEnds ticket t.board.now t.recorded.core.setting served t.pass
   loop_ends ending served number how emits ends told = record {
     own = t.of_board;
-    number = subst (λ n. HasNumber (n + 1) t.pass) (sym t.numbered) t.number;
+    number = rw t.numbered t.number;
     numbered = number ∙ sym t.numbered;
-    did = subst (λ how. ∥ DidEvents ticket t.recorded.core.setting how served.emits.items t.pass ∥₁) (sym how)
-        (subst (λ emits. ∥ DidEvents ticket t.recorded.core.setting ending emits.items t.pass ∥₁) (sym emits) (∥∥₁_map told (did ending ends)));
+    did = rw (how, emits) (∥∥₁_map told (did ending ends));
   }

@@ -1,5 +1,5 @@
 -- What is known of all passes and all seats once their threads have ended.
-use Rattle.std.proofs.Common.{◌≡◌, ◌⊎◌, inl, inr, ℕ, ◌+◌, List, ◌++◌, length, map, Some, sym, ap, ◌∙◌, subst, arith, All}
+use Rattle.std.proofs.Common.{◌≡◌, ◌⊎◌, inl, inr, ℕ, ◌+◌, List, ◌++◌, length, map, Some, ◌∙◌, arith, All}
 use Rattle.std.proofs.Math.Logic.{∥∥₁_map, ∥∥₁_map₂}
 use Rattle.std.specs.Prelude.{slice_get, flat_map}
 use Rattle.std.proofs.lemmas.Option.{slice_get-get_or}
@@ -44,7 +44,7 @@ module _ {J : Type 0} (ticket : J → Ticket) (loaded : Loaded) (serving : Servi
           let count = pair_lengths EndsLoop 0 served lp ls in
           let it = there.1 in
           let same : claims.loops + there.0 + 1 ≡ k + 1 = omega arith in
-          subst (λ n. HasNumber n p) same (each_get (λ n x. HasNumber (claims.loops + n + 1) x) wp there.0 p (firsts EndsWorker (λ n x. HasNumber (claims.loops + n + 1) x) (λ n x s e. e.number) 0 wp seats ws) there.2))
+          rw same at (each_get (λ n x. HasNumber (claims.loops + n + 1) x) wp there.0 p (firsts EndsWorker (λ n x. HasNumber (claims.loops + n + 1) x) (λ n x s e. e.number) 0 wp seats ws) there.2))
     ]
 
     pub all_claims : All (λ (s : WorkerView). s.claims ≡ claims.id) seats

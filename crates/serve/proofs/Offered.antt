@@ -62,7 +62,7 @@ module _ (r : ℕ) (events : List Event) where
         → FirstOffered events (cond b (record q { stage = s }) q ∷ map (in_stage n s) qs)
     one q qs true mine is h =
         let found = first_found r rs q qs is in
-        right q (subst (λ k. request_of rs k ≡ Some q) (sym found.1 ∙ eqb-true q.order.request n mine) found.0)
+        right q (rw (sym found.1 ∙ eqb-true q.order.request n mine) at found.0)
     one q qs false mine is h = h
 
     by : (qs : List Request) → numbered r rs ≡ qs → FirstOffered events qs → FirstOffered events (map (in_stage n s) qs)
@@ -136,7 +136,7 @@ module _ {S : Type 0} (calls : Calls S) (g : Setting) (r : ℕ) where
   event_keeps MovedBeside events old new h was = later events MovedBeside old.state.requests new.state.requests (ap (λ s. s.requests) h.state) was
 
   opening_offered : (l : Loop S) → IsOpening calls g l → Holds [] l
-  opening_offered l opens = subst (λ (s : State). Offered r [] s.requests) (sym opens.state) tt
+  opening_offered l opens = rw opens.state tt
 
   -- the reply by which an outstanding request was answered
   pub offered_end : (l old : Loop S) (events : List Event) → IsOpening calls g l → History calls g l events old
@@ -149,4 +149,4 @@ module _ {S : Type 0} (calls : Calls S) (g : Setting) (r : ℕ) where
     by [] none k = absurd (let e : request_of old.state.requests r ≡ None = find_first (has_number r) old.state.requests.outstanding ∙ ap first none in cc)
     by (x ∷ qs) first_is k =
         let same : x ≡ q = (let e = (first_found r old.state.requests x qs first_is).0 in cc) in
-        subst (WasOffered events q.order) is (subst (λ (y : Request). WasOffered events y.order y.stage) same k)
+        subst (WasOffered events q.order) is (rw same at k)

@@ -1,5 +1,5 @@
 -- A place more, where the last seat and the last pass are taken.
-use Rattle.std.proofs.Common.{◌≡◌, ℕ, ◌+◌, List, [], ◌∷◌, ◌++◌, length, refl, sym, ap, subst, ◌∙◌, arith}
+use Rattle.std.proofs.Common.{◌≡◌, ℕ, ◌+◌, List, [], ◌∷◌, ◌++◌, length, ap, ◌∙◌, arith}
 use Rattle.std.proofs.lemmas.List.{length_push}
 use Rattle.serve.specs.Inner.Places.{EachFrom, EachDown}
 use Rattle.serve.proofs.NumberedLists.{from_front, from_last, push_at}
@@ -23,4 +23,4 @@ module _ {A : Type 0} (P : ℕ → A → Type 0) where
       let place = it.1 in
       let size = one_less xs ys x e in
       let same : it.0 ≡ taken = omega arith in
-      subst (λ n. P n x) same it.2
+      rw same at it.2

@@ -1,5 +1,5 @@
 -- What a thread that keeps its promise gives.
-use Rattle.std.proofs.Common.{◌≡◌, ℕ, subst}
+use Rattle.std.proofs.Common.{◌≡◌, ℕ}
 use Rattle.std.specs.Arc.{arc_value}
 use Rattle.claims.specs.declared.seats.Ticket.{Ticket}
 use Rattle.claims.specs.Views.{ClaimsView, WorkerView}
@@ -17,13 +17,9 @@ module _ {J : Type 0} (ticket : J → Ticket) where
       → LoopEnds ticket promise.board.now (setting_at (arc_value promise.plan.now.linked) promise.plan.now.serving promise.loop_no) s p
       → LoopEnds ticket board (setting_at (arc_value plan.linked) plan.serving k) s p
   loop_ended plan board k promise s p h ended =
-      subst (λ n. LoopEnds ticket board (setting_at (arc_value plan.linked) plan.serving n) s p) h.number
-      (subst (λ x. LoopEnds ticket board (setting_at (arc_value x.linked) x.serving promise.loop_no) s p) h.plan_is
-      (subst (λ b. LoopEnds ticket b (setting_at (arc_value promise.plan.now.linked) promise.plan.now.serving promise.loop_no) s p) h.board_is ended))
+      rw (h.board_is, h.plan_is, h.number) at ended
 
   pub worker_ended : (board : BoardView) (claims : ClaimsView) (w : ℕ) (promise : ThreadOfWorker J) (p : PassView J) (seat : WorkerView) → IsWorkerThreadOf board claims w promise
       → WorkerEnds ticket promise.board.now promise.claims.now promise.worker_no p seat → WorkerEnds ticket board claims w p seat
   worker_ended board claims w promise p seat h ended =
-      subst (λ n. WorkerEnds ticket board claims n p seat) h.number
-      (subst (λ x. WorkerEnds ticket board x promise.worker_no p seat) h.claims_are
-      (subst (λ b. WorkerEnds ticket b promise.claims.now promise.worker_no p seat) h.board_is ended))
+      rw (h.board_is, h.claims_are, h.number) at ended

@@ -38,9 +38,9 @@ raised_by_one xs ys a b n wide h = elim (ℕ_discrete b a) [
   there same inside =
       let at_xs = raised-there xs a 1 inside in
       let at_ys = raised-there ys a 1 (omega (arith, wide, inside)) in
-      let was : n + slice_index xs a ≡ slice_index ys a = subst (λ k. n + slice_index xs k ≡ slice_index ys k) same h in
+      let was : n + slice_index xs a ≡ slice_index ys a = rw same at h in
       let now : n + slice_index (raised xs a 1) a ≡ slice_index (raised ys a 1) a = omega (arith, at_xs, at_ys, was) in
-      subst (λ k. n + slice_index (raised xs a 1) k ≡ slice_index (raised ys a 1) k) (sym same) now
+      rw same now
 
   beyond : b ≡ a → length xs ≤ a → n + slice_index (raised xs a 1) b ≡ slice_index (raised ys a 1) b
   beyond same past =
@@ -98,7 +98,7 @@ takes_alone t u a n h alone = (
 
   by : (b : ℕ) → slice_index u.taken b + slice_index u.untaken b ≡ slice_index u.own b
   by b = elim (ℕ_discrete b a) [
-    | yes same ↦ subst (λ k. slice_index u.taken k + slice_index u.untaken k ≡ slice_index u.own k) (sym same) here
+    | yes same ↦ rw same here
     | no other ↦ elsewhere b other
   ]
 

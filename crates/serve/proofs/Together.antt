@@ -114,20 +114,20 @@ pair_at : {A B : Type 0} (R : A → B → Type 0) (xs : List A) (ys : List B) �
 pair_at R [] [] h k x e = not_there x e
 pair_at R [] (y ∷ ys) h k x e = absurd h
 pair_at R (z ∷ xs) [] h k x e = absurd h
-pair_at R (z ∷ xs) (y ∷ ys) h zero x e = (y, refl, subst (λ w. R w y) (same_Some z x e) h.0)
+pair_at R (z ∷ xs) (y ∷ ys) h zero x e = (y, refl, rw (same_Some z x e) at h.0)
 pair_at R (z ∷ xs) (y ∷ ys) h (suc k) x e = pair_at R xs ys h.1 k x e
 
 -- the hand of a pass, and the pass of a hand, on a loop's line
 module _ {J : Type 0} (passes : List (PassView J)) (k : ℕ) (hands : List (HandView Reply)) (are : AreHandsOf passes k hands) where
   hand_at : (i : ℕ) (p : PassView J) → slice_get passes i ≡ Some p → (h : HandView Reply) × (slice_get hands i ≡ Some h) × (slice_get p.replies k ≡ Some h)
   hand_at i p at =
-      let there : slice_get (map (λ h. Some h) hands) i ≡ Some (slice_get p.replies k) = subst (λ l. slice_get l i ≡ Some (slice_get p.replies k)) are (map_at (λ (q : PassView J). slice_get q.replies k) passes i p at) in
+      let there : slice_get (map (λ h. Some h) hands) i ≡ Some (slice_get p.replies k) = rw are at (map_at (λ (q : PassView J). slice_get q.replies k) passes i p at) in
       let back = map_back (λ (h : HandView Reply). Some h) hands i (slice_get p.replies k) there in
       (back.0, back.1, sym back.2)
 
   pass_at : (i : ℕ) (h : HandView Reply) → slice_get hands i ≡ Some h → (p : PassView J) × (slice_get passes i ≡ Some p) × (slice_get p.replies k ≡ Some h)
   pass_at i h at =
-      let there : slice_get (map (λ (q : PassView J). slice_get q.replies k) passes) i ≡ Some (Some h) = subst (λ l. slice_get l i ≡ Some (Some h)) (sym are) (map_at (λ (x : HandView Reply). Some x) hands i h at) in
+      let there : slice_get (map (λ (q : PassView J). slice_get q.replies k) passes) i ≡ Some (Some h) = rw are (map_at (λ (x : HandView Reply). Some x) hands i h at) in
       let back = map_back (λ (q : PassView J). slice_get q.replies k) passes i (Some h) there in
       (back.0, back.1, back.2)
 
@@ -162,7 +162,7 @@ module _ {J : Type 0} (ticket : J → Ticket) (loaded : Loaded) (serving : Servi
     seats_started n (p ∷ ps) (s ∷ ss) h = (λ i. h.0.started i ++ seats_started (suc n) ps ss h.1 i)
 
     posted_alone : (t : Ticket) (p : PassView J) (events : List Event) → count_by (λ j. is_ticket t (ticket j)) (p.jobs.given ++ []) ≤ count_by (asks t) events → PostsWithin ticket t p events
-    posted_alone t p events h = subst (λ l. count_by (λ j. is_ticket t (ticket j)) l ≤ count_by (asks t) events) (append-nil p.jobs.given) h
+    posted_alone t p events h = rw (append-nil p.jobs.given) at h
 
     none_put : Pairs PutsNone lp loops
     none_put = with_seconds DidLoop events_of PutsNone (λ k s p d. d.tied.put) 0 served lp ls
@@ -185,7 +185,7 @@ module _ {J : Type 0} (ticket : J → Ticket) (loaded : Loaded) (serving : Servi
         record {
           pass = f.0.y;
           at = f.0.second;
-          tied = subst (IsTied ticket k f.0.y []) f.0.is (subst (λ n. IsTied ticket n f.0.y [] f.0.known.ended.done.events) place f.0.known.tied);
+          tied = subst (IsTied ticket k f.0.y []) f.0.is (rw place at f.0.known.tied);
           below = omega arith;
         }
 
@@ -219,7 +219,7 @@ module _ {J : Type 0} (ticket : J → Ticket) (loaded : Loaded) (serving : Servi
         let whole = replies k l.below in
         let hand = hand_at (lp ++ wp) k whole.0 whole.1 k l.pass (front_at lp wp k l.pass l.at) in
         let place = offer_place events i o end is_taken at in
-        let name = map_back (λ (n : Named Reply). offer_of n.item) hand.0.taken place.0 (o, end) (subst (λ xs. slice_get xs place.0 ≡ Some (o, end)) (l.tied.offered hand.0 hand.2) place.1) in
+        let name = map_back (λ (n : Named Reply). offer_of n.item) hand.0.taken place.0 (o, end) (rw (l.tied.offered hand.0 hand.2) at place.1) in
         let gift = whole.2.given k place.0 hand.0 name.0 (to_index whole.0 k hand.0 hand.1) (to_index hand.0.taken place.0 name.0 name.1) in
         let giver = gift.0 in
         let by = pass_at (lp ++ wp) k whole.0 whole.1 gift.1 giver (by_index whole.0 gift.1 giver gift.3) in
@@ -231,10 +231,10 @@ module _ {J : Type 0} (ticket : J → Ticket) (loaded : Loaded) (serving : Servi
             → IsPut workers o end
         from_pass place p giver n reply own gave of_order of_end (inl at) =
             let loop = pair_at PutsNone lp loops none_put place p at in
-            not_there reply (subst (λ xs. slice_get xs n ≡ Some reply) (loop.2 k giver own) gave)
+            not_there reply (rw (loop.2 k giver own) at gave)
         from_pass place p giver n reply own gave of_order of_end (inr at) =
             let worker = pair_at PutsThese wp workers these_put at.0 p at.2 in
-            let put = put_place k worker.0 n reply (subst (λ xs. slice_get xs n ≡ Some reply) (worker.2 k giver own) gave) in
+            let put = put_place k worker.0 n reply (rw (worker.2 k giver own) at gave) in
             (at.0, put.0, worker.0, reply, worker.1, put.1, of_order, of_end)
 
     pub together : JointRun loaded serving served crew

@@ -65,17 +65,17 @@ active_listed : (t : Table) (n k : ℕ) (xs : List (Option ℕ)) → is_active_h
 active_listed t n k [] h = absurd (cc)
 active_listed t n zero (x ∷ xs) h =
     let same : n ≡ n + 0 = omega arith in
-    subst (λ m. IsListed m (map (λ a. entry.Async a) (active_from t n (x ∷ xs)))) same (listed_here (is_active_handle t x) n (active_from t (n + 1) xs) h)
+    rw (sym same) (listed_here (is_active_handle t x) n (active_from t (n + 1) xs) h)
 active_listed t n (suc k) (x ∷ xs) h =
     let same : n + 1 + k ≡ n + suc k = omega arith in
     listed_later (is_active_handle t x) n (n + suc k) (active_from t (n + 1) xs)
-    (subst (λ m. IsListed m (map (λ a. entry.Async a) (active_from t (n + 1) xs))) same (active_listed t (n + 1) k xs h))
+    (rw same at (active_listed t (n + 1) k xs h))
 
 polled : (s : State) (async_no : ℕ) → HasActiveAsync s async_no → IsListed async_no (poll_list s)
 polled s async_no h =
     let same : 0 + async_no ≡ async_no = omega arith in
     listed_behind async_no (map (λ r. entry.After r.order.request) (settled s.requests)) (map (λ a. entry.Async a) (active_asyncs s.roster))
-    (subst (λ n. IsListed n (map (λ a. entry.Async a) (active_asyncs s.roster))) same (active_listed s.roster.handles 0 async_no s.roster.asyncs h))
+    (rw same at (active_listed s.roster.handles 0 async_no s.roster.asyncs h))
 
 module _ {S : Type 0} (calls : Calls S) (lawful : IsLawful calls) (g : Setting) where
   abbrev untaken : Loop S → ℕ → ℕ
@@ -107,7 +107,7 @@ module _ {S : Type 0} (calls : Calls S) (lawful : IsLawful calls) (g : Setting) 
     all a = ap (λ (l : Loop S). untaken l a) is ∙ ap (λ (v : View). slice_index v.untaken a) (lawful.takes old.shared mid taken.0 taken.1 takes.1).0
 
     gone : (a : ℕ) → a ≡ taken.0 → slice_index (slice_set (calls.view old.shared).untaken taken.0 0) a ≡ 0
-    gone a same = subst (λ m. slice_index (slice_set (calls.view old.shared).untaken taken.0 0) m ≡ 0) (sym same) (emptied (calls.view old.shared).untaken taken.0)
+    gone a same = rw same (emptied (calls.view old.shared).untaken taken.0)
 
     kept : (a : ℕ) → untaken old a ≡ 0 → slice_index (slice_set (calls.view old.shared).untaken taken.0 0) a ≡ 0
     kept a none = elim (ℕ_discrete a taken.0) [
@@ -131,14 +131,14 @@ module _ {S : Type 0} (calls : Calls S) (lawful : IsLawful calls) (g : Setting) 
 
   passed_drains : (old new : Loop S) (e : Entry) (rest : List Entry) → old.state.list ≡ e ∷ rest → IsPassed (in_state old (record old.state { list = rest })) e new → Drains calls old → Drains calls new
   passed_drains old new e rest is it drains a active =
-      let there : HasActiveAsync old.state a = subst (λ (s : State). HasActiveAsync s a) it.state active in
+      let there : HasActiveAsync old.state a = rw it.state at active in
       elim (drains a there) [
-        | inl come ↦ moved (comes_yet old new e rest a old.state.phase it there (subst (λ list. IsToCome old.state.phase list a) is come))
+        | inl come ↦ moved (comes_yet old new e rest a old.state.phase it there (rw is at come))
         | inr none ↦ inr (it.still a none)
       ]
     where
       moved : IsToCome old.state.phase rest a ⊎ (untaken new a ≡ 0) → IsToCome new.state.phase new.state.list a ⊎ (untaken new a ≡ 0)
-      moved (inl h) = inl (subst (λ (s : State). IsToCome s.phase s.list a) (sym it.state) h)
+      moved (inl h) = inl (rw it.state h)
       moved (inr h) = inr h
 
   -- a phase whose list is used up
@@ -176,14 +176,14 @@ module _ {S : Type 0} (calls : Calls S) (lawful : IsLawful calls) (g : Setting) 
     entered_step : (did : StepDid) → did ≡ Entered (next_phase old.state.phase) (now_in old.state (next_phase old.state.phase)) → new ≡ in_state old (phase_entered old.state (next_phase old.state.phase)) → IsQuietStep old did new
     entered_step did told is = record {
       drains = λ h. subst (Drains calls) (sym is) (λ a active. enters old.state old.state.phase a (untaken old a ≡ 0) active (left h a active));
-      at_turn = λ now said. subst (λ (l : Loop S). IsAtTurn l.state) (sym is) (subst (λ p. IsAtTurn (phase_entered old.state p)) (sym (timers now said)) (refl, refl, refl));
+      at_turn = λ now said. rw (is, timers now said) (refl, refl, refl);
       drained = λ now said h. subst (IsDrained calls) (sym is) (λ a active. ends_drained old.state.phase a (untaken old a ≡ 0) (timers now said) (left h a active));
     } where
       timers : (now : ℕ) → did ≡ Entered Timers now → next_phase old.state.phase ≡ Timers
       timers now said = (let both = sym told ∙ said in cc)
 
       left : Drains calls old → (a : ℕ) → HasActiveAsync old.state a → IsToCome old.state.phase [] a ⊎ (untaken old a ≡ 0)
-      left h a active = subst (λ list. IsToCome old.state.phase list a ⊎ (untaken old a ≡ 0)) empty (h a active)
+      left h a active = rw empty at (h a active)
 
     -- or the loop is over
     over_step : (did : StepDid) → did ≡ step.Over → new ≡ in_state old (record old.state { status = Over }) → IsQuietStep old did new
@@ -266,7 +266,7 @@ none_due s is =
 
 -- what leaves handles and phase leaves that the loop goes on
 pub goes_still : {S : Type 0} (calls : Calls S) (l m : Loop S) (ran : ℕ) → m.state.roster ≡ l.state.roster → m.state.phase ≡ l.state.phase → MayGoOn calls l ran → MayGoOn calls m ran
-goes_still calls l m ran roster phase h = (h.0, λ a active. phase ∙ h.1 a (subst (λ (r : Roster). is_active_handle r.handles (async_handle r a) ≡ true) roster active))
+goes_still calls l m ran roster phase h = (h.0, λ a active. phase ∙ h.1 a (rw roster at active))
 
 pub handed_roster : (status : Status) (s : State) → (next_in status s).1.roster ≡ s.roster
 handed_roster Failed s = refl
@@ -278,11 +278,11 @@ handed_phase _ s = refl
 
 -- a loop that opens goes on
 pub opening_goes : {S : Type 0} (calls : Calls S) (l : Loop S) (m : Contents) (list : List Entry) → l.state ≡ opening (opening_roster m) list → MayGoOn calls l 0
-opening_goes calls l m list is = (omega arith, λ a active. absurd (let it = subst (λ (s : State). HasActiveAsync s a) is active in cc))
+opening_goes calls l m list is = (omega arith, λ a active. absurd (let it = rw is at active in cc))
 
 -- a loop whose turn begins comes to each async yet
 pub drains_first : {S : Type 0} (calls : Calls S) (l : Loop S) (ran : ℕ) → MayGoOn calls l ran → Drains calls l
-drains_first calls l ran h a active = inl (subst (λ p. IsToCome p l.state.list a) (sym (h.1 a active)) tt)
+drains_first calls l ran h a active = inl (rw (h.1 a active) tt)
 
 -- and goes on where it may run callbacks yet
 pub goes_at_turn : {S : Type 0} (calls : Calls S) (l : Loop S) (ran : ℕ) → ran < MAX_CALLBACKS → IsAtTurn l.state → MayGoOn calls l ran

@@ -27,7 +27,7 @@ count_append p xs ys = sum_by-append (λ x. cond (p x) 1 0) xs ys
 module _ {J : Type 0} (ticket : J → Ticket) where
   pub tied_new : (board : BoardView) (k : ℕ) (pass : PassView J) → IsNewPass board pass → IsTied ticket k pass [] []
   tied_new board k pass new = record {
-    posted = λ t. subst (λ l. count_by (λ j. is_ticket t (ticket j)) (l ++ []) ≤ 0) (sym new.jobs.given) (omega arith);
+    posted = λ t. rw new.jobs.given (omega arith);
     put = λ j h at. ap (λ (x : HandView Reply). x.given) (sym (get_or_from_slice_get pass.replies j h h at)) ∙ (new.replies j h (is_within pass.replies j h at)).given;
     offered = λ h at.
         let none : h.taken ≡ [] = ap (λ (x : HandView Reply). x.taken) (sym (get_or_from_slice_get pass.replies k h h at)) ∙ (new.replies k h (is_within pass.replies k h at)).taken in
@@ -43,7 +43,7 @@ module _ {J : Type 0} (ticket : J → Ticket) where
         posted = λ t. (let a = count_append (asks t) events more in let b = tied.posted t in omega arith);
         put = tied.put;
         offered = λ h at. same ∙ tied.offered h at;
-        own = λ i offer at. tied.own i offer (subst (λ xs. slice_get xs i ≡ Some offer) same at);
+        own = λ i offer at. tied.own i offer (rw same at at);
       }
 
   -- no job is kept any more
@@ -89,8 +89,8 @@ module _ {J : Type 0} (ticket : J → Ticket) where
         let a : count_by f (new.jobs.given ++ []) ≡ count_by f (old.jobs.given ++ job ∷ []) = ap (count_by f) (append-nil new.jobs.given ∙ ap (λ (x : HandView J). x.given) posts.jobs) in
         let b = tied.posted t in
         omega arith;
-    put = λ j h at. tied.put j h (subst (λ l. slice_get l j ≡ Some h) posts.replies at);
-    offered = λ h at. tied.offered h (subst (λ l. slice_get l k ≡ Some h) posts.replies at);
+    put = λ j h at. tied.put j h (rw posts.replies at at);
+    offered = λ h at. tied.offered h (rw posts.replies at at);
     own = tied.own;
   }
 
@@ -108,19 +108,19 @@ module _ {J : Type 0} (ticket : J → Ticket) where
             omega arith;
         put = λ j h at. elim (ℕ_discrete j k) [
           | yes same ↦ (
-              let it : h ≡ collects.after = set_here old.replies k collects.after h (subst (λ n. slice_get (slice_set old.replies k collects.after) n ≡ Some h) same (subst (λ l. slice_get l j ≡ Some h) collects.replies at)) in
+              let it : h ≡ collects.after = set_here old.replies k collects.after h (rw (collects.replies, same) at at) in
               ap (λ (x : HandView Reply). x.given) it ∙ ap (λ (x : HandView Reply). x.given) collects.did.taken ∙ tied.put k collects.before collects.was)
-          | no other ↦ tied.put j h (set_there old.replies k j collects.after h other (subst (λ l. slice_get l j ≡ Some h) collects.replies at))
+          | no other ↦ tied.put j h (set_there old.replies k j collects.after h other (rw collects.replies at at))
         ];
         offered = λ h at.
-            let it : h ≡ collects.after = set_here old.replies k collects.after h (subst (λ l. slice_get l k ≡ Some h) collects.replies at) in
+            let it : h ≡ collects.after = set_here old.replies k collects.after h (rw collects.replies at at) in
             let now : h.taken ≡ collects.before.taken ++ collects.did.name ∷ [] = ap (λ (x : HandView Reply). x.taken) it ∙ ap (λ (x : HandView Reply). x.taken) collects.did.taken in
             longer
             ∙ ap (λ xs. xs ++ offer_of reply ∷ []) (tied.offered collects.before collects.was)
             ∙ ap (λ r. map (λ n. offer_of n.item) collects.before.taken ++ offer_of r ∷ []) (sym collects.did.item)
             ∙ sym (map-append (λ n. offer_of n.item) collects.before.taken (collects.did.name ∷ []))
             ∙ ap (map (λ n. offer_of n.item)) (sym now);
-        own = λ i offer at. each_push (λ (o : WorkOrder × WorkEnd). o.0.loop_no ≡ k) (offered_in events) (offer_of reply) tied.own of_loop i offer (subst (λ l. slice_get l i ≡ Some offer) longer at);
+        own = λ i offer at. each_push (λ (o : WorkOrder × WorkEnd). o.0.loop_no ≡ k) (offered_in events) (offer_of reply) tied.own of_loop i offer (rw longer at at);
       }
 
 -- a pass keeps its number
@@ -145,7 +145,7 @@ module _ {J : Type 0} where
     one : (j : ℕ) (x : HandView Reply) → slice_get (slice_set old.replies k collects.after) j ≡ Some x → x.number ≡ n
     one j x at = elim (ℕ_discrete j k) [
       | yes same ↦ (
-          let it : x ≡ collects.after = set_here old.replies k collects.after x (subst (λ i. slice_get (slice_set old.replies k collects.after) i ≡ Some x) same at) in
+          let it : x ≡ collects.after = set_here old.replies k collects.after x (rw same at at) in
           ap (λ (y : HandView Reply). y.number) it ∙ ap (λ (y : HandView Reply). y.number) collects.did.taken ∙ numbered k collects.before collects.was)
       | no other ↦ numbered j x (set_there old.replies k j collects.after x other at)
     ]

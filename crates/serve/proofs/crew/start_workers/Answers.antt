@@ -1,4 +1,4 @@
-use Rattle.std.proofs.Common.{◌≡◌, length, sym, subst, arith}
+use Rattle.std.proofs.Common.{◌≡◌, length, arith}
 use Rattle.serve.specs.Inner.Promises.{IsWorkerThreadOf}
 use Rattle.serve.proofs.NumberedLists.{push_at, longer_by}
 use Rattle.serve.proofs.Placing.{one_less, down_front, down_last}
@@ -22,7 +22,5 @@ loop-place-preserved g c =
       omega arith,
       down_front (λ w p. (p.board.now ≡ c.args.board.now) × (p.claims.now ≡ c.args.claims.now) × (p.seat.worker_no ≡ w)) (length c.args.places.items) places c.pop.new.self.items c.in-Some.place split kept.2,
       push_at _ started c.in_ok-thread.thread c.push_reserved.new.self.items pushed kept.3
-          (subst (λ w. IsWorkerThreadOf c.args.board.now c.args.claims.now w c.in_ok-thread.thread.promise) known.2
-          (subst (λ x. IsWorkerThreadOf c.args.board.now x c.in-Some.place.seat.worker_no c.in_ok-thread.thread.promise) known.1
-          (subst (λ b. IsWorkerThreadOf b c.in-Some.place.claims.now c.in-Some.place.seat.worker_no c.in_ok-thread.thread.promise) known.0 made))),
+          (rw (known.0, known.1, known.2) at made),
     )

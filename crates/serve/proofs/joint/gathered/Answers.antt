@@ -16,7 +16,7 @@ gather_all-requires-clause-new g c =
     let count = c.requires.loops_count in
     let crew = c.requires.workers_count in
     let all : plan.serving.loops + plan.serving.workers ≡ length c.append.new.self.items = omega arith in
-    subst (λ n. IsNewGathering c.args.board.now n c.args.gathering) all c.requires.gathering
+    rw all at c.requires.gathering
 
 pub gather_all-requires-clause-passes : goal.gather_all-requires-clause-passes
 gather_all-requires-clause-passes g c =
@@ -65,7 +65,7 @@ returns-clause-joint g c =
     let e = c.args.ended in
     let plan = c.args.plan.now in
     let items = c.in_ok-append.ensures.items in
-    let whole = subst (λ l. IsWhole (map (λ p. p.jobs) l)) items c.gather_all.ensures.jobs in
-    let replies = subst (λ n. AreRepliesWhole n (e.loops.items ++ e.workers.items)) c.requires.loops.0 (subst (AreRepliesWhole (length c.args.board.now.replies)) items c.gather_all.ensures.replies) in
+    let whole = rw items at c.gather_all.ensures.jobs in
+    let replies = rw c.requires.loops.0 at (subst (AreRepliesWhole (length c.args.board.now.replies)) items c.gather_all.ensures.replies) in
     jointly g.J.Job.ticket (arc_value plan.linked) plan.serving c.args.board.now c.args.claims.now e.served.items e.loops.items e.workers.items e.seats.items c.requires.loops_end c.requires.workers_end
     c.gather_seats-crew.result c.requires.loops_count c.requires.workers_count c.gather_seats-crew.ensures.started c.gather_seats-crew.ensures.once whole replies

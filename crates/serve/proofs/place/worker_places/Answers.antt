@@ -20,8 +20,7 @@ worker_place-requires-clause-pass g c =
     let less = one_less c.loop-seat.passes.items c.take_pass-pass.new.passes.items c.take_pass-pass.result c.take_pass-pass.ensures in
     let all = kept.2 in
     let place : length c.take_pass-pass.new.passes.items ≡ c.args.claims.now.loops + c.in-Some.seat.worker_no = omega arith in
-    subst (λ n. IsPassAt c.args.board.now n c.take_pass-pass.result) place
-    (from_last (IsPassAt c.args.board.now) c.loop-seat.passes.items c.take_pass-pass.new.passes.items c.take_pass-pass.result c.take_pass-pass.ensures kept.0)
+    rw place at (from_last (IsPassAt c.args.board.now) c.loop-seat.passes.items c.take_pass-pass.new.passes.items c.take_pass-pass.result c.take_pass-pass.ensures kept.0)
 
 pub loop-seat-preserved : goal.loop-seat-preserved
 loop-seat-preserved g c =

@@ -1,4 +1,4 @@
-use Rattle.std.proofs.Common.{◌≡◌, length, sym, subst, arith}
+use Rattle.std.proofs.Common.{◌≡◌, length, arith}
 use Rattle.serve.specs.Inner.Promises.{IsThreadOf}
 use Rattle.serve.proofs.NumberedLists.{push_at, longer_by}
 use Rattle.serve.proofs.Placing.{one_less, down_front, down_last}
@@ -22,6 +22,5 @@ loop-place-preserved g c =
       omega arith,
       down_front (λ k p. (p.board.now ≡ c.args.board.now) × (p.seat.loop_no ≡ k)) (length c.args.places.items) places c.pop.new.self.items c.in-Some.place split kept.2,
       push_at _ started c.in_ok-thread.thread c.push_reserved.new.self.items pushed kept.3
-          (subst (λ k. IsThreadOf c.args.plan.now c.args.board.now k c.in_ok-thread.thread.promise) known.1
-          (subst (λ b. IsThreadOf c.args.plan.now b c.in-Some.place.seat.loop_no c.in_ok-thread.thread.promise) known.0 made)),
+          (rw (known.0, known.1) at made),
     )

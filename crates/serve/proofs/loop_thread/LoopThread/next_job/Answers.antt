@@ -1,4 +1,4 @@
-use Rattle.std.proofs.Common.{◌≡◌, None, refl, sym, subst, ◌∙◌}
+use Rattle.std.proofs.Common.{◌≡◌, None, refl, sym, ◌∙◌}
 use Rattle.serve.specs.Inner.Moves.{RecordHandsOut}
 use Rattle.serve.proofs.Told.{is_none, stays_asked, stays_less, stays_posted, told_none, told_maybe, told_taken}
 use Rattle.serve.proofs.loop_thread.LoopThread.next_job.Goals as goal
@@ -23,7 +23,7 @@ returns-in_default-next_order-clause-told g c told =
 pub returns-in_err-meter-clause-keeps : goal.returns-in_err-meter-clause-keeps
 returns-in_err-meter-clause-keeps g c =
     let none : c.args.self.now.kept ≡ None = sym c.take.ensures.value ∙ is_none c.take.result c.in_default.not-Some in
-    let handed = subst (λ o. RecordHandsOut c.args.self.now.recorded o c.next_order.new.self) c.in-Some-next_order.is c.next_order.ensures.handed in (
+    let handed = rw c.in-Some-next_order.is at c.next_order.ensures.handed in (
       stays_posted g.J.Job.ticket c.args.self.now _ c.next_order.new.self c.in-Some-next_order.order handed c.post.ensures.posts refl refl refl none c.take.ensures.after,
       λ goes. c.post.ensures.goes (c.next_order.ensures.goes goes),
     )
@@ -31,7 +31,7 @@ returns-in_err-meter-clause-keeps g c =
 pub returns-in_err-made-clause-keeps : goal.returns-in_err-made-clause-keeps
 returns-in_err-made-clause-keeps g c =
     let none : c.args.self.now.kept ≡ None = sym c.take.ensures.value ∙ is_none c.take.result c.in_default.not-Some in
-    let handed = subst (λ o. RecordHandsOut c.args.self.now.recorded o c.next_order.new.self) c.in-Some-next_order.is c.next_order.ensures.handed in (
+    let handed = rw c.in-Some-next_order.is at c.next_order.ensures.handed in (
       stays_posted g.J.Job.ticket c.args.self.now _ c.next_order.new.self c.in-Some-next_order.order handed c.post.ensures.posts refl refl refl none c.take.ensures.after,
       λ goes. c.post.ensures.goes (c.next_order.ensures.goes goes),
     )
@@ -39,7 +39,7 @@ returns-in_err-made-clause-keeps g c =
 pub returns-clause-keeps : goal.returns-clause-keeps
 returns-clause-keeps g c =
     let none : c.args.self.now.kept ≡ None = sym c.take.ensures.value ∙ is_none c.take.result c.in_default.not-Some in
-    let handed = subst (λ o. RecordHandsOut c.args.self.now.recorded o c.next_order.new.self) c.in-Some-next_order.is c.next_order.ensures.handed in (
+    let handed = rw c.in-Some-next_order.is at c.next_order.ensures.handed in (
       stays_posted g.J.Job.ticket c.args.self.now _ c.next_order.new.self c.in-Some-next_order.order handed c.post.ensures.posts refl refl refl none c.take.ensures.after,
       λ goes. c.post.ensures.goes (c.next_order.ensures.goes goes),
     )
@@ -47,6 +47,6 @@ returns-clause-keeps g c =
 pub returns-clause-told : goal.returns-clause-told
 returns-clause-told g c =
     let none : c.args.self.now.kept ≡ None = sym c.take.ensures.value ∙ is_none c.take.result c.in_default.not-Some in
-    let handed = subst (λ o. RecordHandsOut c.args.self.now.recorded o c.next_order.new.self) c.in-Some-next_order.is c.next_order.ensures.handed in
+    let handed = rw c.in-Some-next_order.is at c.next_order.ensures.handed in
     told_maybe g.J.Job.ticket c.args.self.now _ c.next_order.new.self c.in-Some-next_order.order handed c.post.ensures.posts _ refl refl refl none c.take.ensures.after
     c.in_ok-made.ensures.ticket

@@ -1,4 +1,4 @@
-use Rattle.std.proofs.Common.{◌∷◌, [], Some, ap, refl, sym, subst, ◌∙◌}
+use Rattle.std.proofs.Common.{◌∷◌, [], Some, ap, refl, ◌∙◌}
 use Rattle.std.specs.Prelude.{option_to_list}
 use Rattle.serve.specs.Inner.Threads.{HasTied}
 use Rattle.serve.proofs.Told.{when_ok, keeps_then, stays_with, told_post, told_kept}
@@ -12,7 +12,7 @@ returns-in-Err g c =
     record {
       keeps = keeps_then g.J.Job.ticket _ c.loop.self _ c.loop.invariant.2 (
         stays_with g.J.Job.ticket c.loop.self b _ job c.next_job.ensures.keeps.0
-            (λ told. subst (λ k. ∥ HasTied g.J.Job.ticket b (option_to_list k) ∥₁) c.in-Some-2.is (c.in_ok-job.ensures.told told)) refl refl
+            (λ told. rw c.in-Some-2.is at (c.in_ok-job.ensures.told told)) refl refl
             (told_kept g.J.Job.ticket b _ job refl refl back.1 (ap (λ x. Some x) back.0)),
         c.next_job.ensures.keeps.1,
       );
@@ -28,7 +28,7 @@ loop-preserved g c =
       kept.1,
       keeps_then g.J.Job.ticket _ c.loop.self _ kept.2 (
         stays_with g.J.Job.ticket c.loop.self b _ job c.next_job.ensures.keeps.0
-            (λ told. subst (λ k. ∥ HasTied g.J.Job.ticket b (option_to_list k) ∥₁) c.in-Some-2.is (c.in_ok-job.ensures.told told)) refl refl
+            (λ told. rw c.in-Some-2.is at (c.in_ok-job.ensures.told told)) refl refl
             (told_post g.J.Job.ticket b _ job refl refl c.next_job.ensures.none posts),
         c.next_job.ensures.keeps.1,
       ),

@@ -1,4 +1,4 @@
-use Rattle.std.proofs.Common.{refl, sym, subst}
+use Rattle.std.proofs.Common.{refl}
 use Rattle.pool.specs.declared.seats.Seats.{Seats}
 use Rattle.serve.specs.Histories.{thread_calls}
 use Rattle.serve.specs.Inner.Alone.{IsAlone}
@@ -11,7 +11,7 @@ invariant_of-self c =
     let r = c.args.self.now in
     let told = c.accept-accepted.ensures.told in
     let left = accepted_leaves c.args.reply r.core.loop c.accept-accepted.result c.accept-accepted.new.self.loop told in
-    let alone : IsAlone c.accept-accepted.new.self.loop.shared.taker = subst (λ (s : Seats). IsAlone s.taker) (sym left.0) r.alone in
+    let alone : IsAlone c.accept-accepted.new.self.loop.shared.taker = rw left.0 r.alone in
     record {
       few = r.few;
       alone = alone;

@@ -1,4 +1,4 @@
-use Rattle.std.proofs.Common.{refl, sym, ap, subst, ◌∙◌}
+use Rattle.std.proofs.Common.{refl, ap, ◌∙◌}
 use Rattle.pool.specs.declared.seats.Seats.{Seats}
 use Rattle.phases.specs.State.{Loop}
 use Rattle.serve.specs.Histories.{thread_calls}
@@ -10,7 +10,7 @@ use Rattle.serve.proofs.record.LoopRecord.next_order.Goals as goal
 pub invariant_of-self : goal.invariant_of-self
 invariant_of-self c =
     let r = c.args.self.now in
-    let alone : IsAlone c.next_order.new.self.loop.shared.taker = subst (λ (l : Loop Seats). IsAlone l.shared.taker) (sym c.next_order.ensures.core) r.alone in
+    let alone : IsAlone c.next_order.new.self.loop.shared.taker = rw c.next_order.ensures.core r.alone in
     record {
       few = r.few;
       alone = alone;

@@ -1,4 +1,4 @@
-use Rattle.std.proofs.Common.{refl, ap, sym, subst, ◌∙◌, arith}
+use Rattle.std.proofs.Common.{refl, ap, ◌∙◌, arith}
 use Rattle.pool.specs.declared.seats.Seats.{Seats}
 use Rattle.phases.specs.State.{Loop}
 use Rattle.serve.specs.Histories.{thread_calls}
@@ -12,7 +12,7 @@ invariant_of-self c =
     let r = c.args.self.now in
     let read = c.clock-clock in
     let shared = ap (λ (l : Loop Seats). l.shared) c.clock.ensures.core ∙ ap (λ (l : Loop Seats). l.shared) read.ensures.core in
-    let alone : IsAlone c.clock.new.self.loop.shared.taker = subst (λ (s : Seats). IsAlone s.taker) (sym shared) r.alone in
+    let alone : IsAlone c.clock.new.self.loop.shared.taker = rw shared r.alone in
     record {
       few = r.few;
       alone = alone;

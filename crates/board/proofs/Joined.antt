@@ -1,7 +1,7 @@
 -- What passes know where one steps, one is made or one is joined to another; and counts of what was given and taken.
-use Rattle.std.proofs.Common.{◌≡◌, ◌≢◌, ⊎_elim, ℕ, zero, suc, ◌+◌, ◌<◌, List, [], ◌∷◌, ◌++◌, length, set, Bool, cond, count_by, sum_by, refl, sym, ap, ◌∙◌, subst, length-set, length-append, arith}
+use Rattle.std.proofs.Common.{◌≡◌, ◌≢◌, ⊎_elim, ℕ, ◌+◌, List, [], ◌∷◌, ◌++◌, length, set, Bool, count_by, refl, sym, ap, ◌∙◌, subst, length-set, length-append, arith}
 use Rattle.std.proofs.lemmas.List.Sums.{sum_by_push}
-use mathlib.Core.Option.{some, some-injective, some-ne-none}
+use mathlib.Core.Option.{some, some-ne-none}
 use lib.ListN.{get_elem?}
 use Rattle.atomic_table.proofs.Lists.{at_set, set_here, set_else, at_longer, at_last}
 use Rattle.tallies.proofs.Lists.{within, at_push, each_set, each_push, each_one, sum_set, sum_same, count_push, count_cons}

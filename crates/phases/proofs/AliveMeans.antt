@@ -3,7 +3,7 @@ use Rattle.std.proofs.Common.{◌≡◌, ◌≢◌, ◌↔◌, ℕ, suc, ◌+◌
 use Rattle.std.proofs.Common.{map, Option, Some, None, is_some, Contains, All, refl, sym, ap, subst, ◌∙◌, arith, eqb-true, IsTrue}
 use Rattle.std.specs.List.{list_any, slice_get}
 use Rattle.std.specs.Option.{option_map, option_map_or, option_and_then}
-use Rattle.std.specs.Prelude.{nat_le, IfSome}
+use Rattle.std.specs.Prelude.{nat_le}
 use Rattle.std.proofs.lemmas.Bool.{and_parts, or_cases, or_left, or_right, ne_eqb, leb-true, leb-false}
 use Rattle.std.proofs.lemmas.List.Elements.{All-contains}
 use Rattle.std.proofs.lemmas.Option.{cond_some}

@@ -12,7 +12,7 @@ use Rattle.events.specs.declared.phase.EntryKind.TheVariants as kind
 use Rattle.phases.specs.declared.entry.Entry.{Entry}
 use Rattle.phases.specs.declared.entry.Status.{Status}
 use Rattle.phases.specs.declared.entry.Status.TheVariants.{Running, Over, Failed}
-use Rattle.phases.specs.Roster.{Roster, in_table, async_handle, unless_handle}
+use Rattle.phases.specs.Roster.{in_table, async_handle, unless_handle}
 use Rattle.phases.specs.Requests.{without_request}
 use Rattle.phases.specs.State.{Setting, State, Loop}
 use Rattle.phases.specs.Calls.{Calls}

@@ -9,7 +9,7 @@ use Rattle.phases.specs.Guests.{GuestCall}
 use Rattle.phases.specs.History.{Event, History, IsOpening, guest_calls}
 use Rattle.phases.specs.Laws.{asks_for, is_number, is_queue_work}
 use Rattle.phases.specs.Requests.{Requests, no_requests}
-use Rattle.phases.specs.State.{Setting, Loop, State}
+use Rattle.phases.specs.State.{Setting, Loop}
 use Rattle.phases.proofs.StepsByCalls.{CallFate, changes_nothing, opens_one, cancels_one, IsKeptBy, history_keeps}
 
 -- each number at most once, and none that is not given yet

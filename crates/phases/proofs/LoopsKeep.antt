@@ -20,10 +20,9 @@ use Rattle.handles.specs.declared.handle.Record.{Record}
 use Rattle.instance.specs.Fresh.{fresh_store}
 use Rattle.instance.specs.Store.{Store}
 use Rattle.reduction.specs.Hosting.{Lawful, Names}
-use Rattle.reduction.specs.Invoking.{Invokes, TakesArguments, HasNoResults}
+use Rattle.reduction.specs.Invoking.{TakesArguments, HasNoResults}
 use Rattle.reduction.specs.Leading.{Leads, calling, scene}
 use Rattle.instance.specs.Stops.{Halt}
-use Rattle.reduction.specs.Running.{end_of_run}
 use Rattle.instance.specs.Storing.{IsStoreOf}
 use Rattle.events.specs.declared.ended.Ended.{Ended}
 use Rattle.imports.specs.Linking.{IsLinked, ExportsFunction, ExportsNothing}

@@ -9,7 +9,6 @@ use Rattle.validate.specs.declared.side_table.SideTable.{SideTable}
 use Rattle.instance.specs.Store.{Store}
 use Rattle.instance.specs.Stops.{Halt}
 use Rattle.instance.specs.declared.stack.Caller.{Caller}
-use Rattle.events.specs.declared.did.StepDid.{StepDid}
 use Rattle.events.specs.declared.ended.Ended.{Ended}
 use Rattle.events.specs.declared.phase.EntryKind.{EntryKind}
 use Rattle.events.specs.Bare.{IsBare}
@@ -22,13 +21,12 @@ use Rattle.reduction.specs.Leading.{Leads, calling, scene}
 use Rattle.interp.specs.declared.paused.Paused.{Paused}
 use Rattle.interp.specs.Slices.{RunIsPaused, RunIsOver}
 use Rattle.phases.specs.Calls.{Calls}
-use Rattle.phases.specs.Guests.{GuestCall}
 use Rattle.phases.specs.Keeping.{KeepsLoop}
 use Rattle.phases.specs.Settings.{setting_of}
 use Rattle.imports.specs.Linking.{IsLinked}
 use Rattle.order.proofs.InSlices.{bare_is_defined}
 use Rattle.phases.specs.State.{Setting, State, Loop, Core}
-use Rattle.phases.specs.Step.{RunsFrom, StepsWith, begun}
+use Rattle.phases.specs.Step.{begun}
 use Rattle.phases.specs.Underway.{StepInSlices, Host, moves, StepHasCome, IsCallback}
 use Rattle.phases.proofs.Relocated.{placed, placed_is, paused_at_placed, same_made}
 

@@ -5,7 +5,6 @@ use Rattle.syntax.specs.declared.types.Value.{Value}
 use Rattle.instance.specs.Store.{Store}
 use Rattle.instance.specs.Stops.{Halt}
 use Rattle.events.specs.declared.ended.Ended.{Ended}
-use Rattle.reduction.specs.Hosting.{Lawful}
 use Rattle.reduction.specs.Leading.{Leads, calling, scene}
 use Rattle.phases.specs.Calls.{Calls}
 use Rattle.phases.specs.Host.{HostStep}

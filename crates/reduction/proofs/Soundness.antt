@@ -15,7 +15,7 @@ use Rattle.instance.specs.Storing.{HaveGlobalTypes}
 use Rattle.reduction.specs.Configuration.{branched, returned}
 use Rattle.reduction.specs.Step.{plain_step, turned, plain, at_code, on_contexts, label_for, takes_topmost, call_typed, call_element, entering, chosen}
 use Rattle.validate.specs.SameTypes.{same_valtypes, same_type}
-use Rattle.reduction.specs.Typed.{call_typing, Under, in_label, in_call, outermost, Configured, Sound}
+use Rattle.reduction.specs.Typed.{Under, in_label, in_call, outermost, Configured, Sound}
 use Rattle.reduction.proofs.Lists.{types_of-append, pushed-split, topmost_types, in_order, pushed-last, label_holds, length-pushed}
 use Rattle.validate.proofs.SameTypes.{same_valtypes-is, same_valtypes-of}
 use Rattle.reduction.proofs.PlainStepsSound.{PlainStepTyped, plain_step_typed, there}

@@ -18,14 +18,11 @@ use Rattle.phases.specs.Outside.{is_failed, next_order_of, TakesReplyTo, answere
 use Rattle.phases.specs.Requests.{Answered, Request, has_number, in_stage, is_settled}
 use Rattle.phases.specs.State.{Setting, Loop, State}
 use Rattle.phases.specs.Step.{in_state, over}
-use Rattle.phases.specs.View.{View}
 use Rattle.phases.proofs.Asyncs.{Few}
 use Rattle.desk.specs.Desk.{Desk, new_desk}
 use Rattle.desk.specs.Laws.{Passed, PassesThrough}
 use Rattle.world_log.specs.declared.step.Step.{Step}
 use Rattle.world_log.specs.declared.entry.LogEntry.{LogEntry}
-use Rattle.world_log.specs.declared.entry.LogEntry.TheVariants as line
-use Rattle.world_log.specs.declared.outcome.PostOutcome.TheVariants as post
 use Rattle.world.specs.Laws.{RunsJoin, AreInPlace}
 use Rattle.world.specs.World.{World, Idle, WorldRun, HasLoop, core, opening_world, opening_loop}
 use Rattle.serve.specs.HandedOut.{handed_in}

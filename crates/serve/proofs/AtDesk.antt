@@ -3,7 +3,7 @@ use Rattle.std.proofs.Common.{◌≡◌, ℕ, ◌+◌, List, [], ◌∷◌, refl
 use Rattle.std.specs.Prelude.{slice_index}
 use Rattle.std.proofs.Math.Logic.{∥∥₁_map}
 use Rattle.phases.specs.History.{Event, CancelAnswered, RequestAnswered, MovedBeside, EventStep}
-use Rattle.phases.specs.State.{Setting, Loop, State}
+use Rattle.phases.specs.State.{Setting, Loop}
 use Rattle.phases.specs.Step.{over}
 use Rattle.phases.specs.View.{View}
 use Rattle.desk.specs.Desk.{Desk, new_desk}

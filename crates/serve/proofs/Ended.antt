@@ -1,14 +1,13 @@
 -- What a loop that has ended in its thread gives back.
-use Rattle.std.proofs.Common.{◌≡◌, ℕ, ◌+◌, List, [], ◌++◌, append-nil, sym, ◌∙◌}
+use Rattle.std.proofs.Common.{◌≡◌, sym, ◌∙◌}
 use Rattle.std.proofs.Math.Logic.{∥∥₁_map}
 use Rattle.std.specs.Prelude.{option_to_list}
 use Rattle.claims.specs.declared.seats.Ticket.{Ticket}
-use Rattle.board.specs.Boards.{HasNumber}
 use Rattle.serve.specs.declared.loop_thread.LoopThread.{LoopThread}
 use Rattle.serve.specs.declared.served.LoopEnding.{LoopEnding}
 use Rattle.serve.specs.declared.served.Served.{Served}
-use Rattle.serve.specs.Histories.{HasDone, HasEnded, EndsBy, thread_calls}
-use Rattle.serve.specs.Inner.Ends.{IsTied, DidEvents, LoopEnds}
+use Rattle.serve.specs.Histories.{HasDone, EndsBy, thread_calls}
+use Rattle.serve.specs.Inner.Ends.{DidEvents, LoopEnds}
 use Rattle.serve.specs.Inner.Threads.{HasTied, IsTiedSoFar}
 use Rattle.serve.proofs.Tying.{tied_less}
 

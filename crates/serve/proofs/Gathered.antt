@@ -1,5 +1,5 @@
 -- What is known of all passes and all seats once their threads have ended.
-use Rattle.std.proofs.Common.{◌≡◌, ◌⊎◌, inl, inr, ℕ, ◌+◌, List, ◌++◌, length, map, Some, ◌∙◌, arith, All}
+use Rattle.std.proofs.Common.{◌≡◌, inl, inr, ℕ, ◌+◌, List, ◌++◌, length, map, Some, arith, All}
 use Rattle.std.proofs.Math.Logic.{∥∥₁_map, ∥∥₁_map₂}
 use Rattle.std.specs.Prelude.{slice_get, flat_map}
 use Rattle.std.proofs.lemmas.Option.{slice_get-get_or}
@@ -13,7 +13,7 @@ use Rattle.serve.specs.declared.serving.Serving.{Serving}
 use Rattle.serve.specs.Answers.{IsServed, EachServed}
 use Rattle.serve.specs.Histories.{setting_at}
 use Rattle.serve.specs.Inner.Ends.{DidEvents, DidTurns, LoopEnds, WorkerEnds}
-use Rattle.serve.specs.Inner.Places.{EachFrom, EachPair}
+use Rattle.serve.specs.Inner.Places.{EachPair}
 use Rattle.serve.specs.Joint.{JointRun}
 use Rattle.serve.proofs.Lookups.{split_at}
 use Rattle.serve.proofs.NumberedLists.{each_get, pair_lengths, pair_map, firsts, seconds}

@@ -36,7 +36,7 @@ use Rattle.phases.specs.Step.{LoopStep}
 use Rattle.phases.specs.View.{new_view}
 use Rattle.pool.specs.declared.seats.Seats.{Seats}
 use Rattle.serve.specs.declared.served.LoopEnding.{LoopEnding}
-use Rattle.serve.specs.Histories.{HasDone, HasEnded, HasServed, EndsBy, ThreadStep, ThreadHistory, thread_calls, is_callback_event, callbacks_in, IsByThread}
+use Rattle.serve.specs.Histories.{HasDone, HasServed, EndsBy, ThreadStep, ThreadHistory, thread_calls, is_callback_event, callbacks_in, IsByThread}
 use Rattle.serve.specs.declared.record.LoopRecord.{LoopRecord}
 use Rattle.serve.specs.Inner.Alone.{IsAlone}
 use Rattle.serve.specs.Inner.Ends.{offered_in}

@@ -1,7 +1,7 @@
 -- A place more, where the last seat and the last pass are taken.
 use Rattle.std.proofs.Common.{◌≡◌, ℕ, ◌+◌, List, [], ◌∷◌, ◌++◌, length, ap, ◌∙◌, arith}
 use Rattle.std.proofs.lemmas.List.{length_push}
-use Rattle.serve.specs.Inner.Places.{EachFrom, EachDown}
+use Rattle.serve.specs.Inner.Places.{EachDown}
 use Rattle.serve.proofs.NumberedLists.{from_front, from_last, push_at}
 
 -- without the last, the list is shorter by one

@@ -1,5 +1,5 @@
 -- What a thread that keeps its promise gives.
-use Rattle.std.proofs.Common.{◌≡◌, ℕ}
+use Rattle.std.proofs.Common.{ℕ}
 use Rattle.std.specs.Arc.{arc_value}
 use Rattle.claims.specs.declared.seats.Ticket.{Ticket}
 use Rattle.claims.specs.Views.{ClaimsView, WorkerView}

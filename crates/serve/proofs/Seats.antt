@@ -1,6 +1,5 @@
 -- New seats and new passes, in the order of their numbers.
-use Rattle.std.proofs.Common.{◌≡◌, ℕ, ◌+◌, ◌<◌, List, [], ◌∷◌, All, get_or, length, Some, refl, sym, subst, arith}
-use Rattle.std.specs.List.{slice_get}
+use Rattle.std.proofs.Common.{◌≡◌, ℕ, List, [], ◌∷◌, All, get_or, refl, arith}
 use Rattle.std.proofs.lemmas.Option.{slice_get-get_or}
 use Rattle.claims.specs.Views.{ClaimsView, LoopView, WorkerView, AreNewLoops, AreNewWorkers, new_loop_view, new_worker_view}
 use Rattle.board.specs.Boards.{BoardView, PassView, IsNewPass, AreNumbered}

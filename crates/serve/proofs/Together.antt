@@ -1,33 +1,29 @@
 -- What passes and seats say of all loops and all workers, once all were taken in.
-use Rattle.std.proofs.Common.{◌≡◌, ◌⊎◌, inl, inr, ℕ, zero, suc, ◌+◌, ◌<◌, ◌≤◌, Bool, true, false, cond, List, [], ◌∷◌, ◌++◌, append-nil, length, map, Some, None, count_by, sum_by, refl, sym, ap, ◌∙◌, subst, arith, All}
+use Rattle.std.proofs.Common.{◌≡◌, ◌⊎◌, inl, inr, ℕ, zero, suc, ◌+◌, ◌<◌, ◌≤◌, Bool, true, false, cond, List, [], ◌∷◌, ◌++◌, append-nil, length, map, Some, count_by, refl, sym, ap, ◌∙◌, subst, arith}
 use Rattle.std.proofs.Math.Logic.{∥∥₁_map₂}
 use Rattle.std.specs.Prelude.{slice_get, flat_map, ◌==◌}
 use Rattle.std.proofs.lemmas.Option.{same_Some}
 use Rattle.tallies.proofs.Lists.{count_cons}
-use mathlib.Core.Option.{some}
-use lib.ListN.{get_elem?}
 use Rattle.syntax.specs.Loaded.{Loaded}
 use Rattle.claims.specs.declared.seats.Ticket.{Ticket}
-use Rattle.claims.specs.Views.{ClaimsView, WorkerView, EachOnce, is_ticket}
+use Rattle.claims.specs.Views.{WorkerView, EachOnce, is_ticket}
 use Rattle.order.specs.Orders.{order_of, end_of}
 use Rattle.order.specs.Work.{WorkOrder, WorkEnd}
 use Rattle.order.specs.declared.reply.Reply.{Reply}
-use Rattle.board.specs.Jobs.{ticket_of}
 use Rattle.board.specs.Views.{HandView, IsWhole}
-use Rattle.board.specs.Boards.{BoardView, PassView, AreHandsOf, AreRepliesWhole}
+use Rattle.board.specs.Boards.{PassView, AreHandsOf, AreRepliesWhole}
 use Rattle.board.specs.declared.line.Named.{Named}
 use Rattle.phases.specs.History.{Event, EndOffered}
-use Rattle.phases.specs.State.{Setting}
-use Rattle.pool.specs.Turns.{Turn, Put, ticket_in, started_by, put_for}
+use Rattle.pool.specs.Turns.{Turn, Put, started_by, put_for}
 use Rattle.serve.specs.declared.served.Served.{Served}
 use Rattle.serve.specs.declared.serving.Serving.{Serving}
 use Rattle.serve.specs.HandedOut.{FoundBehind, passed_of}
 use Rattle.serve.specs.Histories.{HasEnded, thread_calls, setting_at}
-use Rattle.serve.specs.Inner.Ends.{offer_of, offered_in, IsTied, DidTurns, DidEvents, WorkerEnds, LoopEnds}
+use Rattle.serve.specs.Inner.Ends.{offer_of, offered_in, IsTied, DidTurns, DidEvents}
 use Rattle.serve.specs.Inner.Places.{EachPair}
-use Rattle.serve.specs.Joint.{IsPut, JointRun, asks, takes, puts, is_offered, ticket_for, times_in}
+use Rattle.serve.specs.Joint.{IsPut, JointRun, asks, puts, is_offered, ticket_for, times_in}
 use Rattle.serve.proofs.JointCounts.{Pairs, count_map, PostsWithin, TakesThese, PutsNone, PutsThese, taken_within, offered_within}
-use Rattle.serve.proofs.Lookups.{not_there, is_within, is_there, front_at, split_at, by_index, to_index, map_at, map_back}
+use Rattle.serve.proofs.Lookups.{not_there, is_within, front_at, split_at, by_index, to_index, map_at, map_back}
 
 -- pairs of lists, where of each pair something is known
 module _ {A B : Type 0} (R : ℕ → A → B → Type 0) where

@@ -1,5 +1,5 @@
 -- How the history of a loop in its thread goes on, tied to its pass.
-use Rattle.std.proofs.Common.{◌≡◌, ◌≢◌, ℕ, ◌+◌, List, [], ◌∷◌, ◌++◌, Option, Some, None, refl, sym, ap, subst, ◌∙◌, append_assoc, arith}
+use Rattle.std.proofs.Common.{◌≡◌, ◌≢◌, List, [], ◌∷◌, ◌++◌, Option, Some, None, refl, sym, ap, subst, ◌∙◌, arith}
 use Rattle.std.proofs.Math.Logic.{∥∥₁_map}
 use Rattle.std.specs.Prelude.{option_to_list, IfSome, IfNone, OnOk, Result, Ok, Err}
 use Rattle.claims.specs.declared.seats.Ticket.{Ticket}
@@ -7,12 +7,12 @@ use Rattle.order.specs.Orders.{order_of, end_of}
 use Rattle.order.specs.declared.order.Order.{Order}
 use Rattle.order.specs.declared.reply.Reply.{Reply}
 use Rattle.board.specs.Jobs.{ticket_of}
-use Rattle.board.specs.Boards.{BoardView, PassView, IsNewPass, Posts, Collects}
+use Rattle.board.specs.Boards.{Posts, Collects}
 use Rattle.phases.specs.History.{Event, OrderAsked, EndOffered, MovedBeside, emitted}
 use Rattle.serve.specs.declared.loop_thread.LoopThread.{LoopThread}
 use Rattle.serve.specs.declared.record.LoopRecord.{LoopRecord}
 use Rattle.reduction.proofs.StepByStep.{steps_join}
-use Rattle.serve.specs.Histories.{HasDone, ThreadStep, thread_calls, callbacks_in}
+use Rattle.serve.specs.Histories.{HasDone, ThreadStep, thread_calls}
 use Rattle.serve.specs.Inner.Ends.{offered_in, IsTied}
 use Rattle.serve.specs.Inner.Moves.{MovesBy, MovesAlone, RecordHandsOut, RecordPosts, IsOffered}
 use Rattle.serve.specs.Inner.Posts.{handed_out, PostsAmong, IsBehind}

@@ -25,7 +25,7 @@ use Rattle.phases.specs.Guests.{GuestCall}
 use Rattle.phases.specs.Outside.{next_in}
 use Rattle.phases.specs.PhaseList.{is_active_handle, active_from, active_asyncs, poll_list, timers_list, phase_list, handle_entry, until_due, hint_of, is_alive}
 use Rattle.phases.specs.Requests.{settled}
-use Rattle.phases.specs.Roster.{Roster, in_table, async_handle, opening_roster}
+use Rattle.phases.specs.Roster.{in_table, opening_roster}
 use Rattle.phases.specs.State.{Setting, State, Loop, opening}
 use Rattle.phases.specs.Step.{LoopStep, StepIn, ListStep}
 use Rattle.phases.specs.Step.{in_state, over, in_phase, phase_entered, now_in, turn}

@@ -1,9 +1,9 @@
 -- How the history of a loop stays tied to what was done with its pass.
-use Rattle.std.proofs.Common.{◌≡◌, ◌≢◌, ℕ, ◌+◌, ◌<◌, ◌≤◌, Bool, cond, List, [], ◌∷◌, ◌++◌, append-nil, append_assoc, length, map, get_or, Option, Some, None, count_by, refl, sym, ap, ◌∙◌, subst, arith, All}
-use Rattle.std.specs.Prelude.{slice_get, slice_set, option_to_list, IfOk, Result, Ok, Err}
+use Rattle.std.proofs.Common.{◌≡◌, ℕ, ◌+◌, Bool, cond, List, [], ◌∷◌, ◌++◌, append-nil, length, map, get_or, Some, count_by, refl, sym, ap, ◌∙◌, subst, arith, All}
+use Rattle.std.specs.Prelude.{slice_get, slice_set}
 use Rattle.std.proofs.lemmas.List.{map-append, length-set}
 use Rattle.std.proofs.lemmas.List.Sums.{sum_by-append}
-use Rattle.std.proofs.lemmas.Option.{same_Some, slice_get-get_or, get_or_from_slice_get}
+use Rattle.std.proofs.lemmas.Option.{slice_get-get_or, get_or_from_slice_get}
 use native.Mathlib.Decide.{ℕ_discrete}
 use Rattle.tallies.proofs.Lists.{count_cons}
 use Rattle.claims.specs.declared.seats.Ticket.{Ticket}
@@ -13,7 +13,7 @@ use Rattle.order.specs.Work.{WorkOrder, WorkEnd}
 use Rattle.order.specs.declared.order.Order.{Order}
 use Rattle.order.specs.declared.reply.Reply.{Reply}
 use Rattle.board.specs.Jobs.{ticket_of}
-use Rattle.board.specs.Views.{HandView, Gave, Took}
+use Rattle.board.specs.Views.{HandView}
 use Rattle.board.specs.Boards.{BoardView, PassView, IsNewPass, HasNumber, Posts, Collects}
 use Rattle.phases.specs.History.{Event, OrderAsked, EndOffered, MovedBeside}
 use Rattle.serve.specs.Inner.Ends.{offer_of, offered_in, IsTied}

@@ -1,15 +1,15 @@
 -- What the pass and the seat of a worker say at its end.
-use Rattle.std.proofs.Common.{◌≡◌, ℕ, ◌+◌, ◌<◌, List, [], ◌++◌, length, map, Some, refl, sym, ap, ◌∙◌, subst, arith, All}
+use Rattle.std.proofs.Common.{◌≡◌, ℕ, ◌+◌, [], ◌++◌, length, map, Some, sym, ap, ◌∙◌, subst, arith}
 use Rattle.std.proofs.Math.Logic.{∥∥₁_map}
 use Rattle.std.specs.Prelude.{slice_get}
-use Rattle.std.proofs.lemmas.List.{length-map, map-append}
+use Rattle.std.proofs.lemmas.List.{length-map}
 use Rattle.std.proofs.lemmas.Option.{same_Some, slice_get-get_or, get_or_from_slice_get}
 use Rattle.claims.specs.declared.seats.Ticket.{Ticket}
 use Rattle.claims.specs.Views.{ClaimsView, WorkerView, EachOnce, new_worker_view}
 use Rattle.order.specs.declared.reply.Reply.{Reply}
-use Rattle.board.specs.Views.{HandView, IsIdle, LineView}
+use Rattle.board.specs.Views.{HandView}
 use Rattle.board.specs.Boards.{BoardView, PassView, IsPassOf, IsNewPass, HasNumber}
-use Rattle.pool.specs.Turns.{TookTurns, TookSome, ticket_in, started_by, put_for}
+use Rattle.pool.specs.Turns.{TookSome, started_by, put_for}
 use Rattle.serve.specs.Inner.Ends.{DidTurns, WorkerEnds}
 use Rattle.serve.proofs.Lookups.{is_within, is_there}
 

@@ -1,5 +1,5 @@
 -- What a loop hands out, event by event, and what it has found started by then.
-use Rattle.std.specs.Prelude.{◌≡◌, ℕ, ◌<◌, List, [], ◌∷◌, ◌++◌, Some}
+use Rattle.std.specs.Prelude.{ℕ, ◌<◌, List, [], ◌∷◌, ◌++◌, Some}
 use Rattle.tallies.specs.Requests.{times}
 use Rattle.phases.specs.History.{Event, OrderAsked}
 use Rattle.phases.specs.State.{Setting, Loop}

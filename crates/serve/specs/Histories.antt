@@ -1,5 +1,5 @@
 -- What a thread has done with its loop: a history over the loop's seats, and how it ended.
-use Rattle.std.specs.Prelude.{◌≡◌, ℕ, ◌+◌, ◌<◌, ◌≤◌, Bool, true, false, List, [], count_by, slice_index}
+use Rattle.std.specs.Prelude.{◌≡◌, ℕ, ◌+◌, ◌≤◌, Bool, true, false, List, [], count_by, slice_index}
 use Rattle.limits.specs.declared.TheConstants.{MAX_CALLBACKS}
 use Rattle.syntax.specs.Loaded.{Loaded}
 use Rattle.events.specs.declared.did.StepDid.TheVariants.{Ran}

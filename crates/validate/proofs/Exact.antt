@@ -1,5 +1,5 @@
 -- A valid module keeps every rule that a refusal may name.
-use Rattle.std.proofs.Common.{◌≡◌, ◌≤◌, ◌+◌, ℕ, List, [], length, Option, Some, None, IsSome, IfSome, slice_get, ◌⊎◌, inl, inr, refl, sym, ap}
+use Rattle.std.proofs.Common.{◌≡◌, ℕ, List, [], Option, Some, None, IsSome, IfSome, slice_get, ◌⊎◌, inl, inr, refl, sym, ap}
 use Rattle.syntax.specs.declared.types.ValType.{ValType}
 use Rattle.syntax.specs.declared.types.BlockType.{BlockType}
 use Rattle.syntax.specs.declared.instruction.Instr.{Instr}
@@ -9,23 +9,19 @@ use Rattle.syntax.specs.declared.contents.Contents.{Contents}
 use Rattle.syntax.specs.declared.contents.FuncType.{FuncType}
 use Rattle.syntax.specs.declared.contents.Func.{Func}
 use Rattle.syntax.specs.declared.contents.Import.{Import}
-use Rattle.syntax.specs.declared.contents.Global.{Global}
-use Rattle.syntax.specs.declared.contents.Mutability.TheVariants.{Var}
 use Rattle.syntax.specs.Code.{Code, Done, Plain, Structured, If}
 use Rattle.validate.specs.declared.fault.ValidFault.{ValidFault}
 use Rattle.validate.specs.declared.fault.ValidFault.TheVariants as fault
 use Rattle.validate.specs.Typing.{Context, InstrTyped, Typed, inside, label_types, type_of_block, HasFunctionType, type_of_function}
-use Rattle.validate.specs.Height.{shape_of, type_or_none, greatest_height}
+use Rattle.validate.specs.Height.{shape_of, type_or_none}
 use Rattle.validate.specs.Rules.{Rule, Indexes, Labels, Alignments, Mutabilities, NamesAll, NamesLabels, IsAligned, SetsVariables, Keeps, KeepsType, Kept}
 use Rattle.validate.specs.Valid.{ValidFunc, ValidImport, ValidModule, body_context}
-use Rattle.validate.specs.Stack.{pushed}
 use Rattle.validate.specs.Refusals.{HasFew, IsNamed, IsTyped, KeptIn, IsLow, Refutes}
 use Rattle.validate.specs.Sites.{BreaksAt}
 use Rattle.validate.specs.declared.site.InvalidAt.{InvalidAt}
 use Rattle.validate.proofs.Refused.{refutes_at}
 use Rattle.std.specs.Prelude.{Result, Ok, Err, OnOk, IfErr, MatchOption}
 use Rattle.std.specs.Result.{result_err}
-use Rattle.limits.specs.declared.TheConstants.{MAX_HEIGHT, MAX_LOCALS}
 use Rattle.validate.proofs.Items.{same_some}
 
 names_all : (c : Context) (i : Instr) (before after : List ValType) → InstrTyped c i before after → NamesAll c i

@@ -11,7 +11,7 @@ use Rattle.validate.specs.declared.checker.Checker.{Checker}
 use Rattle.validate.specs.declared.fault.BodyFault.{BodyFault}
 use Rattle.validate.specs.declared.fault.BodyFault.TheVariants as fault
 use Rattle.validate.specs.Stack.{pushed}
-use Rattle.validate.specs.Inner.Operands.{Held, Fits, FitsList, Lacks, Takes}
+use Rattle.validate.specs.Inner.Operands.{Held, FitsList, Lacks, Takes}
 use Rattle.validate.specs.Inner.Checking.{context_at}
 use Rattle.validate.specs.Inner.Rejecting.{Rejects}
 use Rattle.validate.proofs.Items.{same_some}

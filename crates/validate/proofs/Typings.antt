@@ -8,12 +8,11 @@ use Rattle.syntax.specs.declared.instruction.Token.{Token}
 use Rattle.syntax.specs.declared.instruction.Token.TheVariants as op
 use Rattle.syntax.specs.declared.contents.FuncType.{FuncType}
 use Rattle.syntax.specs.Code.{Code, BlockKind, AsBlock, AsLoop, Done, Plain, Structured, If, opening_bracket}
-use Rattle.validate.specs.declared.operands.Operand.{Operand}
 use Rattle.validate.specs.declared.frames.ControlFrame.{ControlFrame}
 use Rattle.validate.specs.declared.scope.Scope.{Scope}
 use Rattle.validate.specs.declared.checker.Checker.{Checker}
 use Rattle.validate.specs.Stack.{pushed}
-use Rattle.validate.specs.Typing.{Context, Typed, inside, label_types, type_of_block}
+use Rattle.validate.specs.Typing.{Context, Typed, label_types, type_of_block}
 use Rattle.validate.specs.Height.{type_or_none}
 use Rattle.validate.specs.Inner.Frames.{label_of}
 use Rattle.validate.specs.Inner.Operands.{Held, held_of, held_around, with_left, Fits}

@@ -8,7 +8,7 @@ use Rattle.order.specs.declared.order.Order.{Order}
 use Rattle.phases.specs.State.{Core}
 use Rattle.desk.specs.Desk.{Desk}
 use Rattle.world.specs.declared.worker.Worker.{Worker}
-use Rattle.world.specs.Making.{LoopsAreNumbered, IsJob, FitsLoops, WorldIsKept}
+use Rattle.world.specs.Making.{LoopsAreNumbered, IsJob, WorldIsKept}
 
 -- what stands in a list that was made of another
 pub made_of : {X Y : Type 0} (f : X → Y) (xs : List X) (n : ℕ) (y : Y) → slice_get (map f xs) n ≡ Some y → (x : X) × (slice_get xs n ≡ Some x) × (f x ≡ y)

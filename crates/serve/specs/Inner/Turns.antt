@@ -2,7 +2,7 @@
 use Rattle.std.specs.Prelude.{◌≡◌, ℕ, ◌<◌, Bool, true, false, ◌⊎◌, List, [], ◌∷◌, slice_index, Option, Some, None}
 use Rattle.limits.specs.declared.TheConstants.{MAX_CALLBACKS}
 use Rattle.events.specs.declared.phase.Phase.{Phase}
-use Rattle.events.specs.declared.phase.Phase.TheVariants.{Begin, Timers, Idle, Poll, Check, Closing}
+use Rattle.events.specs.declared.phase.Phase.TheVariants.{Timers, Idle, Poll}
 use Rattle.phases.specs.Calls.{Calls}
 use Rattle.phases.specs.PhaseList.{timers_list}
 use Rattle.phases.specs.State.{Loop, State}

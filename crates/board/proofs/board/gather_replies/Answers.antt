@@ -1,10 +1,10 @@
-use Rattle.std.proofs.Common.{◌≡◌, ◌<◌, ℕ, List, [], ◌∷◌, ◌++◌, length, set, map, Some, slice_get, refl, sym, ap, ◌∙◌, arith}
+use Rattle.std.proofs.Common.{◌≡◌, ◌<◌, ℕ, List, length, map, Some, slice_get, refl, sym, ap, ◌∙◌, arith}
 use Rattle.std.proofs.lemmas.List.{length-map}
 use Rattle.std.proofs.lemmas.Option.{slice_get_read}
 use Rattle.order.specs.declared.reply.Reply.{Reply}
-use Rattle.board.specs.Views.{LineView, HandView, MakerView, with_hand}
+use Rattle.board.specs.Views.{LineView, HandView, MakerView}
 use Rattle.board.proofs.Makers.{same_part}
-use Rattle.board.proofs.Taking.{IsUnder, below, next_hand, one_less, map_set}
+use Rattle.board.proofs.Taking.{below, next_hand, one_less, map_set}
 use Rattle.board.proofs.board.gather_replies.Goals as goal
 
 makers_count : (makers : List (MakerView Reply)) (lines : List LineView) → map (λ m. m.line) makers ≡ map (λ l. l.id) lines → length makers ≡ length lines

@@ -1,4 +1,4 @@
-use Rattle.std.proofs.Common.{◌≡◌, ℕ, length, map}
+use Rattle.std.proofs.Common.{◌≡◌, length, map}
 use Rattle.board.proofs.Taking.{IsUnder}
 use Rattle.board.proofs.board.gather_replies.Given as goal
 

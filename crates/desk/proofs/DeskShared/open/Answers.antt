@@ -1,5 +1,4 @@
 use Rattle.std.proofs.Common.{sym, arith}
-use Rattle.phases.specs.View.{IsAbove}
 use Rattle.desk.proofs.Steps.{opens_allowed}
 use Rattle.desk.proofs.DeskShared.open.Goals as goal
 

@@ -1,8 +1,6 @@
 use Rattle.std.proofs.Common.{◌≡◌, length, rules, Some, refl}
 use Rattle.std.specs.Prelude.{slice_get}
 use Rattle.std.proofs.lemmas.Option.{slice_get_read}
-use Rattle.imports.specs.declared.call.Call.{Call}
-use Rattle.imports.specs.Linking.{Imports}
 use Rattle.imports.proofs.Known.{imports_from}
 use Rattle.imports.proofs.Calls.{or_now}
 use Rattle.imports.proofs.by_name.call_of.Goals as goal

@@ -1,5 +1,3 @@
-use Rattle.std.proofs.Common.{Option, ℕ}
-use Rattle.imports.specs.Linking.{IsEntry}
 use Rattle.imports.proofs.Known.{entry_is_small}
 use Rattle.imports.proofs.by_name.find_entry.Goals as goal
 

@@ -1,9 +1,5 @@
-use Rattle.std.proofs.Common.{◌≤◌, length, All, ap, ◌∙◌}
-use Rattle.limits.specs.declared.TheConstants.{MAX_IMPORTS, MAX_FUNCTIONS}
-use Rattle.syntax.specs.declared.contents.Contents.{Contents}
+use Rattle.std.proofs.Common.{ap, ◌∙◌}
 use Rattle.syntax.specs.Loaded.{Loaded}
-use Rattle.imports.specs.Linking.{IsKnown, IsCallable, AreCalls, IsEntry, entry_kept}
-use Rattle.imports.specs.declared.entry_point.EntryPoint.TheVariants.{Main, Work, AfterWork}
 use Rattle.imports.proofs.linked.found.Goals as goal
 
 pub calls_of-calls-requires : goal.calls_of-calls-requires

@@ -1,7 +1,4 @@
-use Rattle.std.proofs.Common.{◌≡◌, All, true, false, refl}
-use Rattle.syntax.specs.declared.contents.Contents.{Contents}
-use Rattle.imports.specs.Linking.{IsKnown, IsCallable}
-use Rattle.imports.specs.Sites.{FirstUnknown, FirstUncallable}
+use Rattle.std.proofs.Common.{◌≡◌, true, false, refl}
 use Rattle.imports.proofs.site.refused_at.Goals as goal
 
 pub returns-in-Some : goal.returns-in-Some

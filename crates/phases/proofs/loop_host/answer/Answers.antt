@@ -1,7 +1,5 @@
 use Rattle.std.proofs.Common.{refl, sym, ap}
 use Rattle.instance.specs.Store.{MemoryInstance}
-use Rattle.phases.specs.View.{AreOpenedUpTo}
-use Rattle.phases.specs.State.{State}
 use Rattle.phases.proofs.GuestCallsKeep.{no_arguments}
 use Rattle.phases.proofs.loop_host.answer.Goals as goal
 

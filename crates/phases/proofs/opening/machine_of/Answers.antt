@@ -1,12 +1,10 @@
-use Rattle.std.proofs.Common.{◌≡◌, refl, ap, ◌∙◌}
-use Rattle.std.specs.Prelude.{IfOk}
+use Rattle.std.proofs.Common.{refl, ap, ◌∙◌}
 use Rattle.std.specs.Option.{is_some}
 use Rattle.syntax.specs.Loaded.{Loaded}
 use Rattle.syntax.specs.declared.contents.Contents.{Contents}
 use Rattle.imports.specs.declared.entry_point.EntryPoint.TheVariants.{Main}
 use Rattle.imports.specs.Uv.{name_of_entry}
 use Rattle.phases.specs.Roster.{callbacks_of}
-use Rattle.phases.specs.State.{State}
 use Rattle.phases.proofs.HostExports.{found_exports}
 use Rattle.phases.proofs.LoopsKeep.{new_state}
 use Rattle.phases.proofs.opening.machine_of.Goals as goal

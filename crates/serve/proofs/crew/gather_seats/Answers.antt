@@ -1,6 +1,4 @@
-use Rattle.std.proofs.Common.{◌≡◌, ◌++◌, [], ◌∷◌, All, append_assoc, append-nil, sym, ap, subst, ◌∙◌}
-use Rattle.std.specs.Prelude.{flat_map}
-use Rattle.std.proofs.lemmas.List.Concat.{flat_map-append}
+use Rattle.std.proofs.Common.{◌≡◌, ap, ◌∙◌}
 use Rattle.claims.specs.Views.{WorkerView, EachOnce}
 use Rattle.serve.proofs.Gathering.{all_front, all_last, one_gathered, first_gathered}
 use Rattle.serve.proofs.crew.gather_seats.Goals as goal

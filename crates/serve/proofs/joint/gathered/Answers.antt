@@ -1,8 +1,7 @@
-use Rattle.std.proofs.Common.{◌≡◌, ◌+◌, ◌++◌, length, map, All, sym, ap, ◌∙◌, subst, arith}
+use Rattle.std.proofs.Common.{◌≡◌, ◌+◌, length, All, sym, ap, ◌∙◌, subst, arith}
 use Rattle.std.specs.Arc.{arc_value}
 use Rattle.std.proofs.lemmas.List.{length-append}
-use Rattle.board.specs.Views.{IsWhole}
-use Rattle.board.specs.Boards.{IsPassOf, AreNumbered, IsNewGathering, AreRepliesWhole}
+use Rattle.board.specs.Boards.{IsPassOf, AreNumbered, AreRepliesWhole}
 use Rattle.serve.proofs.Gathered.{all_own, all_numbered, all_claims, all_once, some_seats, as_many_loops, each_served, jointly}
 use Rattle.serve.proofs.joint.gathered.Goals as goal
 

@@ -1,6 +1,3 @@
-use Rattle.std.proofs.Common.{IfOk}
-use Rattle.std.specs.Arc.{arc_value}
-use Rattle.serve.specs.Answers.{EachServed}
 use Rattle.serve.proofs.joint.serve_joint.Goals as goal
 
 pub returns-clause-each : goal.returns-clause-each

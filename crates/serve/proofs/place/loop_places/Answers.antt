@@ -1,4 +1,4 @@
-use Rattle.std.proofs.Common.{◌≡◌, ◌+◌, length, sym, ap, subst, ◌∙◌, arith}
+use Rattle.std.proofs.Common.{◌≡◌, length, sym, ap, subst, ◌∙◌, arith}
 use Rattle.claims.specs.Views.{LoopView, new_loop_view}
 use Rattle.serve.specs.Inner.Places.{IsPassAt, EachDown}
 use Rattle.serve.proofs.NumberedLists.{from_front, from_last, longer_by}

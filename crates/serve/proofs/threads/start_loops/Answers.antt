@@ -1,5 +1,4 @@
 use Rattle.std.proofs.Common.{◌≡◌, length, arith}
-use Rattle.serve.specs.Inner.Promises.{IsThreadOf}
 use Rattle.serve.proofs.NumberedLists.{push_at, longer_by}
 use Rattle.serve.proofs.Placing.{one_less, down_front, down_last}
 use Rattle.serve.proofs.threads.start_loops.Goals as goal

@@ -1,6 +1,4 @@
-use Rattle.std.proofs.Common.{◌≡◌, Option, Some, refl, sym, ap, ◌∙◌}
-use Rattle.std.specs.Prelude.{IsSome}
-use Rattle.syntax.specs.declared.types.Value.{Value}
+use Rattle.std.proofs.Common.{◌≡◌, Some, refl, sym, ap, ◌∙◌}
 use Rattle.syntax.specs.Code.{Code}
 use Rattle.validate.specs.Segments.{constant_in}
 use Rattle.validate.proofs.segments.constant_of.Goals as goal

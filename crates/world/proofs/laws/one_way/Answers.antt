@@ -1,7 +1,6 @@
 use Rattle.world.proofs.Apart.{apart_after}
 use Rattle.world.proofs.OneWay.{one_way_after}
 use Rattle.world.proofs.GuestsOfRuns.{run_of}
-use Rattle.world.specs.Laws.{IsCancelledInLog}
 use Rattle.world.specs.World.{opening_world}
 use Rattle.world.proofs.laws.one_way.Goals as goal
 

@@ -1,4 +1,4 @@
-use Rattle.std.proofs.Common.{◌≡◌, [], length, sym, arith}
+use Rattle.std.proofs.Common.{length, sym, arith}
 use Rattle.board.proofs.AllTaken.{no_items, none_in, one_in, all_in, whole_jobs, whole_replies}
 use Rattle.board.proofs.board.Board.gather_all.Goals as goal
 

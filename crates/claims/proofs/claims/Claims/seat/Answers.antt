@@ -1,4 +1,4 @@
-use Rattle.std.proofs.Common.{◌<◌, sym, ap, ◌∙◌}
+use Rattle.std.proofs.Common.{sym, ap, ◌∙◌}
 use Rattle.claims.proofs.Allowed.{splits_allowed}
 use Rattle.claims.proofs.claims.Claims.seat.Goals as goal
 

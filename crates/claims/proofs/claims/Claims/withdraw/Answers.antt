@@ -1,6 +1,5 @@
-use Rattle.std.proofs.Common.{◌≡◌, ◌+◌, ◌<◌, true, sym, ap, ◌∙◌, arith}
+use Rattle.std.proofs.Common.{◌≡◌, ◌+◌, ◌<◌, sym, ap, ◌∙◌, arith}
 use Rattle.limits.specs.declared.TheConstants.{MAX_LOOPS}
-use Rattle.claims.specs.Views.{LoopView, is_unposted}
 use Rattle.claims.proofs.Allowed.{withdraws_at, withdrawn_as, shows_cancelled}
 use Rattle.claims.proofs.claims.Claims.withdraw.Goals as goal
 

@@ -1,9 +1,6 @@
-use Rattle.std.proofs.Common.{List, All, rules}
-use Rattle.syntax.specs.declared.contents.Contents.{Contents}
-use Rattle.syntax.specs.Loaded.{Loaded}
-use Rattle.imports.specs.declared.call.Call.{Call}
+use Rattle.std.proofs.Common.{rules}
 use Rattle.imports.specs.declared.call.Call.TheVariants.{Now}
-use Rattle.imports.specs.Linking.{AreCalls, IsKnown}
+use Rattle.imports.specs.Linking.{AreCalls}
 use Rattle.imports.proofs.Known.{call_there, call_kept}
 use Rattle.imports.proofs.linked.Linked.imported.Goals as goal
 

@@ -1,10 +1,6 @@
 use Rattle.std.proofs.Common.{[], sym, ap, ◌∙◌, subst}
-use Rattle.syntax.specs.Loaded.{Loaded}
-use Rattle.events.specs.declared.did.StepDid.{StepDid}
-use Rattle.interp.specs.Machines.{MachineFits}
-use Rattle.phases.specs.Inner.Preparing.{CanCallBack}
 use Rattle.phases.specs.State.{Setting, Core}
-use Rattle.phases.specs.Step.{StepsWith, RanNone}
+use Rattle.phases.specs.Step.{RanNone}
 use Rattle.phases.proofs.loop_core.LoopCore.begin_step.Goals as goal
 
 pub call_back-requires-clause-runs : goal.call_back-requires-clause-runs

@@ -1,17 +1,9 @@
-use Rattle.std.proofs.Common.{◌≡◌, ◌≤◌, length, refl, sym, ap, ◌∙◌}
+use Rattle.std.proofs.Common.{◌≡◌, refl, sym, ap, ◌∙◌}
 use Rattle.std.specs.Arc.{arc_value}
-use Rattle.limits.specs.declared.TheConstants.{MAX_DEPTH}
 use Rattle.std.specs.Option.{option_map}
-use Rattle.syntax.specs.Loaded.{Loaded}
-use Rattle.instance.specs.Store.{Store}
-use Rattle.instance.specs.Storing.{IsStoreOf}
-use Rattle.imports.specs.Linking.{IsLinked}
 use Rattle.reduction.specs.Hosting.{Names}
-use Rattle.reduction.specs.Invoking.{TakesArguments, HasNoResults}
-use Rattle.interp.specs.Machines.{MachineFits}
 use Rattle.order.specs.ImportTypes.{import_types}
 use Rattle.phases.specs.Settings.{setting_of}
-use Rattle.phases.specs.Inner.Underway.{LoopMachineFits}
 use Rattle.phases.specs.Step.{begun}
 use Rattle.phases.specs.State.{Setting, State}
 use Rattle.phases.specs.Underway.{Host}

@@ -3,9 +3,7 @@ use Rattle.limits.specs.declared.TheConstants.{MAX_REQUESTS}
 use Rattle.order.specs.Orders.{order_of}
 use Rattle.std.specs.Arc.{arc_value}
 use Rattle.order.specs.Runnable.{CanRun}
-use Rattle.phases.specs.Keeping.{AreOrdersOf}
 use Rattle.phases.specs.Settings.{setting_of}
-use Rattle.phases.specs.State.{State}
 use Rattle.phases.specs.View.{AreOpenedUpTo}
 use Rattle.phases.proofs.LoopsKeep.{kept_on, own_order, own_of}
 use Rattle.phases.proofs.Runnable.{next_orders, next_last}

@@ -1,19 +1,12 @@
-use Rattle.std.proofs.Common.{List, refl, ◌∙◌, Some, ◌≡◌}
+use Rattle.std.proofs.Common.{refl, ◌∙◌}
 use Rattle.std.specs.Arc.{arc_value}
-use Rattle.syntax.specs.Loaded.{Loaded}
-use Rattle.validate.specs.Typing.{type_of_function}
-use Rattle.syntax.specs.declared.types.Value.{Value}
-use Rattle.events.specs.declared.phase.EntryKind.TheVariants.{After}
 use Rattle.imports.specs.declared.entry_point.EntryPoint.TheVariants.{AfterWork as AfterWorkExport}
-use Rattle.imports.specs.Linking.{ExportsFunction}
 use Rattle.imports.specs.Uv.{name_of_entry, type_of_entry}
 use Rattle.phases.specs.Host.{with_requests}
-use Rattle.phases.specs.Keeping.{KeepsLoop}
 use Rattle.phases.specs.Settings.{setting_of}
 use Rattle.phases.specs.Inner.Stage.{completion_in}
 use Rattle.phases.specs.Requests.{without_request}
 use Rattle.phases.specs.State.{State, Loop}
-use Rattle.phases.specs.Step.{RunsFrom}
 use Rattle.phases.proofs.EntriesPrepared.{after_step}
 use Rattle.phases.proofs.LoopsKeep.{still_upto, takes, gives_nothing, not_missing, kept_with}
 use Rattle.phases.proofs.ListedStaysReady.{ready_without_request}

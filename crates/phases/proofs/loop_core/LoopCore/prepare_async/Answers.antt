@@ -1,11 +1,9 @@
-use Rattle.std.proofs.Common.{sym, ◌≡◌, true, [], ◌∷◌, Some}
+use Rattle.std.proofs.Common.{sym, ◌≡◌, [], ◌∷◌, Some}
 use Rattle.syntax.specs.declared.types.Value.TheVariants.{I32}
 use Rattle.events.specs.declared.phase.EntryKind.TheVariants.{Async}
 use Rattle.phases.specs.Settings.{setting_of}
-use Rattle.phases.specs.PhaseList.{is_active_handle}
 use Rattle.phases.specs.Roster.{async_handle}
 use Rattle.phases.specs.State.{Loop}
-use Rattle.phases.specs.Step.{handle_function}
 use Rattle.phases.proofs.EntriesPrepared.{async_step, async_none, async_skipped}
 use Rattle.phases.proofs.GuestCallsKeep.{taken_upto}
 use Rattle.phases.proofs.LoopsKeep.{handle_takes, handle_bare, same_some}

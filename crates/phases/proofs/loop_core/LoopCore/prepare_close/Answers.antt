@@ -3,7 +3,6 @@ use Rattle.std.specs.Arc.{arc_value}
 use Rattle.syntax.specs.declared.types.Value.TheVariants.{I32}
 use Rattle.events.specs.declared.phase.EntryKind.TheVariants.{Close}
 use Rattle.phases.specs.Host.{with_roster}
-use Rattle.phases.specs.Keeping.{KeepsLoop}
 use Rattle.phases.specs.Settings.{setting_of}
 use Rattle.phases.specs.Roster.{without_handle}
 use Rattle.phases.specs.State.{State, Loop}

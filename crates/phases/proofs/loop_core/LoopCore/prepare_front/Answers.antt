@@ -1,16 +1,13 @@
 use Rattle.std.proofs.Common.{refl, sym, subst, ap, drop, ◌∙◌, List, []}
 use Rattle.std.specs.Arc.{arc_value}
 use Rattle.phases.specs.Bare.{whole_did}
-use Rattle.phases.specs.Keeping.{KeepsLoop, AreOrdersOf}
+use Rattle.phases.specs.Keeping.{AreOrdersOf}
 use Rattle.phases.specs.Inner.Preparing.{Prepares}
-use Rattle.phases.specs.Ready.{IsReady}
-use Rattle.phases.specs.Requests.{Requests}
 use Rattle.phases.specs.Roster.{Roster}
 use Rattle.phases.specs.Settings.{setting_of}
 use Rattle.phases.specs.State.{State, Loop}
-use Rattle.phases.specs.Step.{ListStep, EntryStep, RanNone}
+use Rattle.phases.specs.Step.{ListStep, RanNone}
 use Rattle.phases.specs.declared.entry.Entry.{Entry}
-use Rattle.phases.specs.View.{AreOpenedUpTo}
 use Rattle.phases.proofs.LoopsKeep.{still_upto, kept_with, turn_leaves, front_of, no_front}
 use Rattle.phases.proofs.Prepared.{turn_ran_none}
 use Rattle.phases.proofs.ListedStaysReady.{ready_front, ready_rest, spared_rest}

@@ -1,10 +1,7 @@
-use Rattle.std.proofs.Common.{refl, ◌∙◌, Some, [], ◌≡◌}
+use Rattle.std.proofs.Common.{refl, ◌∙◌, []}
 use Rattle.std.specs.Arc.{arc_value}
-use Rattle.syntax.specs.Loaded.{Loaded}
-use Rattle.validate.specs.Typing.{type_of_function}
 use Rattle.events.specs.declared.phase.EntryKind.TheVariants as kind
 use Rattle.imports.specs.declared.entry_point.EntryPoint.TheVariants.{Main}
-use Rattle.imports.specs.Linking.{ExportsFunction}
 use Rattle.imports.specs.Uv.{name_of_entry, type_of_entry}
 use Rattle.phases.specs.Settings.{setting_of}
 use Rattle.phases.specs.State.{Loop}

@@ -2,12 +2,9 @@ use Rattle.std.proofs.Common.{sym}
 use Rattle.std.specs.Arc.{arc_value}
 use Rattle.handles.specs.Table.{after_again}
 use Rattle.phases.specs.Host.{with_roster}
-use Rattle.phases.specs.Keeping.{KeepsLoop}
 use Rattle.phases.specs.Settings.{setting_of}
-use Rattle.phases.specs.Requests.{Requests}
 use Rattle.phases.specs.Roster.{with_handles}
 use Rattle.phases.specs.State.{State, Loop}
-use Rattle.phases.specs.View.{AreOpenedUpTo}
 use Rattle.events.specs.declared.phase.EntryKind.TheVariants.{Timer}
 use Rattle.std.proofs.Common.{[], ◌∷◌}
 use Rattle.syntax.specs.declared.types.Value.TheVariants.{I32}

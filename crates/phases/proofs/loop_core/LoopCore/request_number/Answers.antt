@@ -1,7 +1,5 @@
 use Rattle.std.proofs.Common.{◌∙◌}
 use Rattle.std.specs.Arc.{arc_value}
-use Rattle.syntax.specs.Loaded.{Loaded}
-use Rattle.imports.specs.Linking.{IsLinked}
 use Rattle.phases.specs.Settings.{setting_of}
 use Rattle.phases.specs.State.{State}
 use Rattle.phases.proofs.LoopsKeep.{kept_on}

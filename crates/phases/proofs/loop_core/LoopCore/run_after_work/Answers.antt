@@ -1,21 +1,14 @@
-use Rattle.std.proofs.Common.{refl, ◌∙◌, Some}
+use Rattle.std.proofs.Common.{refl, ◌∙◌}
 use Rattle.std.specs.Arc.{arc_value}
-use Rattle.syntax.specs.Loaded.{Loaded}
-use Rattle.validate.specs.Typing.{type_of_function}
 use Rattle.imports.specs.declared.entry_point.EntryPoint.TheVariants.{AfterWork as AfterWorkExport}
-use Rattle.imports.specs.Linking.{ExportsFunction}
 use Rattle.imports.specs.Uv.{name_of_entry, type_of_entry}
 use Rattle.phases.specs.Settings.{setting_of}
-use Rattle.std.proofs.Common.{◌≡◌, [], ◌∷◌}
-use Rattle.syntax.specs.declared.types.Value.TheVariants.{I32}
 use Rattle.phases.specs.Host.{with_requests}
 use Rattle.phases.specs.Bare.{whole_did}
-use Rattle.phases.specs.Keeping.{KeepsLoop}
 use Rattle.phases.specs.Inner.Stage.{completion_in}
 use Rattle.phases.specs.Requests.{request_of, without_request}
-use Rattle.events.specs.declared.phase.EntryKind.TheVariants.{After}
 use Rattle.phases.specs.State.{State, Loop}
-use Rattle.phases.specs.Step.{AfterWork, RunsFrom, in_state}
+use Rattle.phases.specs.Step.{AfterWork}
 use Rattle.phases.proofs.LoopsKeep.{still_upto, takes, gives_nothing, not_missing, kept_with, told_of}
 use Rattle.phases.proofs.ListedStaysReady.{ready_without_request}
 use Rattle.phases.proofs.Runnable.{request_heard, other_orders}

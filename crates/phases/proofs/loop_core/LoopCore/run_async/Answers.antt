@@ -1,4 +1,4 @@
-use Rattle.std.proofs.Common.{refl, sym, ◌≡◌, true, [], ◌∷◌, Some, None}
+use Rattle.std.proofs.Common.{refl, sym, ◌≡◌, [], ◌∷◌, Some, None}
 use Rattle.syntax.specs.declared.types.Value.TheVariants.{I32}
 use Rattle.events.specs.declared.phase.EntryKind.TheVariants.{Async}
 use Rattle.phases.specs.PhaseList.{is_active_handle}

@@ -1,7 +1,6 @@
 use Rattle.std.proofs.Common.{refl}
 use Rattle.std.specs.Arc.{arc_value}
 use Rattle.phases.specs.Host.{with_roster}
-use Rattle.phases.specs.Keeping.{KeepsLoop}
 use Rattle.phases.specs.Roster.{without_handle}
 use Rattle.phases.specs.Settings.{setting_of}
 use Rattle.phases.specs.State.{State}

@@ -1,11 +1,9 @@
-use Rattle.std.proofs.Common.{refl, ◌∙◌, Some}
+use Rattle.std.proofs.Common.{refl, ◌∙◌}
 use Rattle.std.specs.Arc.{arc_value}
-use Rattle.syntax.specs.Loaded.{Loaded}
-use Rattle.validate.specs.Typing.{type_of_function}
 use Rattle.imports.specs.declared.entry_point.EntryPoint.TheVariants.{Main}
 use Rattle.imports.specs.Uv.{name_of_entry, type_of_entry}
 use Rattle.phases.specs.Settings.{setting_of}
-use Rattle.std.proofs.Common.{[], ◌≡◌}
+use Rattle.std.proofs.Common.{[]}
 use Rattle.phases.proofs.LoopsKeep.{takes, gives_nothing, not_missing}
 use Rattle.phases.proofs.loop_core.LoopCore.run_main.Goals as goal
 

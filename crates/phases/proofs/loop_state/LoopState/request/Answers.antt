@@ -3,7 +3,6 @@ use Rattle.phases.specs.State.{State}
 use Rattle.phases.specs.contracts.loop_state.LoopState.{the_view}
 use Rattle.phases.specs.Host.{with_requests}
 use Rattle.phases.specs.Settings.{setting_of}
-use Rattle.phases.specs.View.{AreOpenedUpTo}
 use Rattle.phases.proofs.OwnersRequests.{request_running}
 use Rattle.phases.proofs.loop_state.LoopState.request.Goals as goal
 

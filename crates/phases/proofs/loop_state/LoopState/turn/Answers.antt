@@ -1,7 +1,5 @@
 use Rattle.std.proofs.Common.{sym, subst}
-use Rattle.phases.specs.Fitting.{RosterIsKept, AreKept}
 use Rattle.phases.specs.Ready.{AreReady}
-use Rattle.phases.specs.State.{State}
 use Rattle.phases.proofs.PhaseListsAreReady.{ready_entered}
 use Rattle.phases.proofs.loop_state.LoopState.turn.Goals as goal
 

@@ -1,14 +1,8 @@
-use Rattle.std.proofs.Common.{List, Option, IfSome, sym, ap, ◌∙◌}
+use Rattle.std.proofs.Common.{sym, ap, ◌∙◌}
 use Rattle.std.specs.Arc.{arc_value}
-use Rattle.syntax.specs.Loaded.{Loaded}
-use Rattle.imports.specs.Linking.{IsLinked}
-use Rattle.events.specs.declared.did.StepDid.TheVariants.{Ran}
 use Rattle.events.specs.declared.ended.Ended.{Ended}
-use Rattle.instance.specs.Stops.{Halt, stop_of}
-use Rattle.phases.specs.Guests.{GuestCall}
-use Rattle.phases.specs.Settings.{setting_of}
-use Rattle.phases.specs.Step.{RunsFrom, finished}
-use Rattle.phases.specs.Stopping.{LoopStopsAt}
+use Rattle.instance.specs.Stops.{stop_of}
+use Rattle.phases.specs.Step.{finished}
 use Rattle.phases.proofs.CallbacksEnd.{whole_is, over_setting, over_stops, over_keeps, over_runs}
 use Rattle.phases.proofs.LoopsKeep.{still_upto}
 use Rattle.phases.proofs.machine.LoopMachine.over.Goals as goal

@@ -1,7 +1,6 @@
-use Rattle.std.proofs.Common.{◌≡◌, Some, None, sym, ap, ◌∙◌, true, false}
+use Rattle.std.proofs.Common.{◌≡◌, None, sym, ap, ◌∙◌, true, false}
 use Rattle.std.specs.Option.{is_some}
-use Rattle.handles.specs.Table.{record_of}
-use Rattle.phases.specs.Roster.{Roster, callback_function}
+use Rattle.phases.specs.Roster.{callback_function}
 use Rattle.phases.proofs.roster.Roster.duty_function.Goals as goal
 
 pub unreachable-requires : goal.unreachable-requires

@@ -1,6 +1,4 @@
 use Rattle.std.proofs.Common.{sym}
-use Rattle.handles.specs.Table.{IsOpen}
-use Rattle.phases.specs.Roster.{Roster}
 use Rattle.phases.specs.contracts.roster.Roster.{the_view}
 use Rattle.phases.proofs.RosterKeeps.{kept_again}
 use Rattle.phases.proofs.roster.Roster.fire.Goals as goal

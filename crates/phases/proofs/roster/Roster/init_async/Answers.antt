@@ -1,7 +1,6 @@
-use Rattle.std.proofs.Common.{◌≡◌, sym, ◌∙◌, true}
+use Rattle.std.proofs.Common.{◌≡◌, sym, ◌∙◌}
 use Rattle.std.specs.FinMap as finite
 use Rattle.limits.specs.declared.TheConstants.{MAX_HANDLES}
-use Rattle.phases.specs.Roster.{Roster, is_callback}
 use Rattle.phases.specs.contracts.roster.Roster.{the_view}
 use Rattle.phases.proofs.RosterKeeps.{kept_async, made_async_open}
 use Rattle.phases.proofs.roster.Roster.init_async.Goals as goal

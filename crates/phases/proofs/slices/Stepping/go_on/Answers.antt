@@ -1,10 +1,9 @@
-use Rattle.std.proofs.Common.{◌≡◌, ℕ, sym, ap, ◌∙◌, subst}
+use Rattle.std.proofs.Common.{◌≡◌, sym, ap, ◌∙◌, subst}
 use Rattle.std.specs.Arc.{arc_value}
 use Rattle.syntax.specs.Loaded.{Loaded}
 use Rattle.instance.specs.Stops.{stop_of}
 use Rattle.events.specs.declared.did.StepDid.{StepDid}
-use Rattle.reduction.specs.Invoking.{HasNoResults}
-use Rattle.interp.specs.Slices.{IsSomePaused, RunIsPaused, RunIsOver}
+use Rattle.interp.specs.Slices.{RunIsPaused, RunIsOver}
 use Rattle.phases.specs.Bare.{whole_did}
 use Rattle.phases.specs.Inner.Ended.{CallbackHasEnded}
 use Rattle.phases.specs.Inner.Underway.{LoopMachineFits, step_in_slices}

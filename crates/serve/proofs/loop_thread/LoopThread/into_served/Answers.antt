@@ -1,5 +1,3 @@
-use Rattle.std.proofs.Common.{refl, sym, ap, subst, ◌∙◌}
-use Rattle.std.proofs.Math.Logic.{∥∥₁_map}
 use Rattle.serve.proofs.Ended.{done_of, loop_ends}
 use Rattle.serve.proofs.loop_thread.LoopThread.into_served.Goals as goal
 

@@ -1,5 +1,4 @@
 use Rattle.std.proofs.Common.{◌≡◌, None, refl, sym, ◌∙◌}
-use Rattle.serve.specs.Inner.Moves.{RecordHandsOut}
 use Rattle.serve.proofs.Told.{is_none, stays_asked, stays_less, stays_posted, told_none, told_maybe, told_taken}
 use Rattle.serve.proofs.loop_thread.LoopThread.next_job.Goals as goal
 

@@ -1,6 +1,4 @@
-use Rattle.std.proofs.Common.{◌∷◌, [], Some, ap, refl, ◌∙◌}
-use Rattle.std.specs.Prelude.{option_to_list}
-use Rattle.serve.specs.Inner.Threads.{HasTied}
+use Rattle.std.proofs.Common.{Some, ap, refl}
 use Rattle.serve.proofs.Told.{when_ok, keeps_then, stays_with, told_post, told_kept}
 use Rattle.serve.proofs.loop_thread.LoopThread.post_all.Goals as goal
 

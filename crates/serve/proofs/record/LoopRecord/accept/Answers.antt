@@ -1,5 +1,4 @@
 use Rattle.std.proofs.Common.{refl}
-use Rattle.pool.specs.declared.seats.Seats.{Seats}
 use Rattle.serve.specs.Histories.{thread_calls}
 use Rattle.serve.specs.Inner.Alone.{IsAlone}
 use Rattle.serve.proofs.OneEventMore.{moves_accept, accepted_leaves}

@@ -1,4 +1,4 @@
-use Rattle.std.proofs.Common.{ℕ, List, length, ◌<◌, get_or, take, All, IsSome, slice_get, refl, arith}
+use Rattle.std.proofs.Common.{ℕ, length, ◌<◌, get_or, take, IsSome, slice_get, refl, arith}
 use Rattle.std.proofs.lemmas.List.{take_all, take_more}
 use Rattle.std.proofs.lemmas.List.Elements.{All-push}
 use Rattle.validate.specs.Inner.Checking.{context_at}

@@ -1,8 +1,7 @@
 use Rattle.std.proofs.Common.{◌≡◌, ◌<◌, [], length, map, Some, sym, ap, ◌∙◌}
 use Rattle.std.specs.Prelude.{slice_set}
-use Rattle.std.specs.VecDeque.{deque_capacity}
 use Rattle.std.proofs.lemmas.List.{length-map, length-set, map-set}
-use Rattle.world.specs.Making.{answers_of, WorldIsKept}
+use Rattle.world.specs.Making.{answers_of}
 use Rattle.world.proofs.Sets.{kept_set}
 use Rattle.world.proofs.StepsAgree.{read}
 use Rattle.world.proofs.CollectsAgree.{reads_at, emptied, collect_failed, collect_nothing, collect_taken, collect_stranger}

@@ -1,4 +1,4 @@
-use Rattle.std.proofs.Common.{◌≡◌, ◌<◌, ◌++◌, ◌∷◌, [], length, ◌∙◌, ap, sym, subst}
+use Rattle.std.proofs.Common.{◌≡◌, ◌++◌, ◌∷◌, [], length, ◌∙◌, ap, sym, subst}
 use Rattle.std.proofs.lemmas.List.{map-append}
 use Rattle.world.specs.Making.{IsJob, answer_of, answers_of}
 use Rattle.world.specs.declared.worker.Worker.TheVariants as worker

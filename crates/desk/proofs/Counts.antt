@@ -69,8 +69,25 @@ module _ (words : List ℕ) (d : Desk) (a : ℕ) (size : length words ≡ MAX_RE
   one_more : slice_index words i + 1 ≡ slice_index d.waiting a + 1
   one_more = ap (λ n. n + 1) (is.word a there)
 
+  -- and was sent by one side
+  more_sent : (l : List ℕ) (rest : ℕ → ℕ) → length l ≡ MAX_ASYNCS
+      → ((b : ℕ) → b < MAX_ASYNCS → slice_index l b + rest b ≡ slice_index d.view.taken b + slice_index d.waiting b)
+      → (b : ℕ) → b < MAX_ASYNCS → slice_index (raised l a 1) b + rest b ≡ slice_index d.view.taken b + slice_index (raised d.waiting a 1) b
+  more_sent l rest long was b low = elim (ℕ_discrete b a) [
+    | yes e ↦ rw e (let waits = sized.waiting in
+        let o = raised-there l a 1 (omega arith) in
+        let w = raised-there d.waiting a 1 (omega arith) in
+        let old = was a there in
+        omega arith)
+    | no ne ↦ (let o = raised-elsewhere l a 1 b ne in let w = raised-elsewhere d.waiting a 1 b ne in let old = was b low in omega arith)
+  ]
+
   pub own-counts : AreCounts (set words i (slice_index words i + 1)) (sent_own d a)
-  own-counts = record { word = λ b low. alike (slice_index words i + 1) (slice_index d.waiting a + 1) b one_more low; sends = sends; untaken = untaken }
+  own-counts = record {
+    word = λ b low. alike (slice_index words i + 1) (slice_index d.waiting a + 1) b one_more low;
+    sends = more_sent d.view.own (slice_index d.sent) sized.own is.sends;
+    untaken = untaken;
+  }
     where
       untaken : (b : ℕ) → b < MAX_ASYNCS → slice_index (raised d.view.untaken a 1) b ≤ slice_index (raised d.waiting a 1) b
       untaken b low = elim (ℕ_discrete b a) [
@@ -83,21 +100,6 @@ module _ (words : List ℕ) (d : Desk) (a : ℕ) (size : length words ≡ MAX_RE
         | no ne ↦ (let u = raised-elsewhere d.view.untaken a 1 b ne in let w = raised-elsewhere d.waiting a 1 b ne in let was = is.untaken b low in omega arith)
       ]
 
-      sends : (b : ℕ) → b < MAX_ASYNCS → slice_index (raised d.view.own a 1) b + slice_index d.sent b ≡ slice_index d.view.taken b + slice_index (raised d.waiting a 1) b
-      sends b low = elim (ℕ_discrete b a) [
-        | yes e ↦ rw e here
-        | no ne ↦ (let o = raised-elsewhere d.view.own a 1 b ne in let w = raised-elsewhere d.waiting a 1 b ne in let was = is.sends b low in omega arith)
-      ]
-        where
-          here : slice_index (raised d.view.own a 1) a + slice_index d.sent a ≡ slice_index d.view.taken a + slice_index (raised d.waiting a 1) a
-          here =
-              let own = sized.own in
-              let waits = sized.waiting in
-              let o = raised-there d.view.own a 1 (omega arith) in
-              let w = raised-there d.waiting a 1 (omega arith) in
-              let was = is.sends a there in
-              omega arith
-
   pub others-counts : AreCounts (set words i (slice_index words i + 1)) (sent_by_another d a)
   others-counts = record { word = λ b low. alike (slice_index words i + 1) (slice_index d.waiting a + 1) b one_more low; sends = sends; untaken = untaken }
     where
@@ -108,19 +110,7 @@ module _ (words : List ℕ) (d : Desk) (a : ℕ) (size : length words ≡ MAX_RE
       ]
 
       sends : (b : ℕ) → b < MAX_ASYNCS → slice_index d.view.own b + slice_index (raised d.sent a 1) b ≡ slice_index d.view.taken b + slice_index (raised d.waiting a 1) b
-      sends b low = elim (ℕ_discrete b a) [
-        | yes e ↦ rw e here
-        | no ne ↦ (let o = raised-elsewhere d.sent a 1 b ne in let w = raised-elsewhere d.waiting a 1 b ne in let was = is.sends b low in omega arith)
-      ]
-        where
-          here : slice_index d.view.own a + slice_index (raised d.sent a 1) a ≡ slice_index d.view.taken a + slice_index (raised d.waiting a 1) a
-          here =
-              let sent = sized.sent in
-              let waits = sized.waiting in
-              let o = raised-there d.sent a 1 (omega arith) in
-              let w = raised-there d.waiting a 1 (omega arith) in
-              let was = is.sends a there in
-              omega arith
+      sends b low = let it = more_sent d.sent (slice_index d.view.own) sized.sent (λ k few. let was = is.sends k few in omega arith) b low in omega arith
 
   -- what waits is within all sends, so that one more fits in a word
   pub within : (n m : ℕ) → SendsAreCounted d n m → slice_index words i ≤ MAX_SENDS + MAX_SENDS

@@ -86,37 +86,33 @@ module _ (words : List ℕ) (d : Desk) (slot r : ℕ) (size : length words ≡ M
     was_opened : 0 < times (slot, r) d.view.opened
     was_opened = let last = at.0 in ⊎_elim (λ z. absurd (omega arith)) (λ t. rw last at t) (last_counts slot 0 d.view.opened)
 
+    -- a list that got the request has it, and else what it had
+    gone : (l : List (ℕ × ℕ)) (q : ℕ) → last_in slot d.view.opened ≡ q → times (slot, q) (l ++ (slot, r) ∷ []) ≡ 0 → ⊥
+    gone l q last zero =
+        let more = times_hit (slot, r) (slot, r) l (is_request_itself (slot, r)) in
+        let here : times (slot, r) (l ++ (slot, r) ∷ []) ≡ 0 = subst (λ k. times (slot, k) (l ++ (slot, r) ∷ []) ≡ 0) (sym last ∙ at.0) zero in
+        omega arith
+
+    either_pushed : (l : List (ℕ × ℕ)) (c : ℕ × ℕ) (n : ℕ) → 0 < times c (l ++ (slot, r) ∷ []) + n → (0 < times c l + n) ⊎ (c ≡ (slot, r))
+    either_pushed l c n h = by_test (is_request c (slot, r))
+        (λ e. inr (same_request c (slot, r) e))
+        (λ e. let same = times_miss c (slot, r) l e in inl (omega arith))
+
     pub cancelled-slots : AreSlots (set words slot 0) (cancelled d (slot, r))
     cancelled-slots = record {
-      word = shut (cancelled d (slot, r)) none (λ s q ne. ap (λ n. tests q (last_in s d.view.opened) n (times (s, q) d.started)) (times_elsewhere (s, q) (slot, r) d.view.cancelled ne));
-      opened = λ c h. ⊎_elim (λ was. is.opened c was) (λ same. rw same was_opened) (either_pushed c h);
+      word = shut (cancelled d (slot, r)) (λ q some_number. fails q _ _ _ (λ last zero _. gone d.view.cancelled q last zero))
+          (λ s q ne. ap (λ n. tests q (last_in s d.view.opened) n (times (s, q) d.started)) (times_elsewhere (s, q) (slot, r) d.view.cancelled ne));
+      opened = λ c h. ⊎_elim (λ was. is.opened c was) (λ same. rw same was_opened) (either_pushed d.view.cancelled c (times c d.started) h);
       found = is.found;
     }
-      where
-        none : (q : ℕ) → 0 < q → is_open_request (cancelled d (slot, r)) (slot, q) ≡ false
-        none q some_number = fails q _ _ _ (λ last zero _. let more = times_hit (slot, r) (slot, r) d.view.cancelled (is_request_itself (slot, r)) in
-            let here : times (slot, r) (d.view.cancelled ++ (slot, r) ∷ []) ≡ 0 = subst (λ k. times (slot, k) (d.view.cancelled ++ (slot, r) ∷ []) ≡ 0) (sym last ∙ at.0) zero in omega arith)
-
-        either_pushed : (c : ℕ × ℕ) → 0 < times c (d.view.cancelled ++ (slot, r) ∷ []) + times c d.started → (0 < times c d.view.cancelled + times c d.started) ⊎ (c ≡ (slot, r))
-        either_pushed c h = by_test (is_request c (slot, r))
-            (λ e. inr (same_request c (slot, r) e))
-            (λ e. let same = times_miss c (slot, r) d.view.cancelled e in inl (omega arith))
 
     pub started-slots : AreSlots (set words slot 0) (started d (slot, r))
     started-slots = record {
-      word = shut (started d (slot, r)) none (λ s q ne. ap (λ n. tests q (last_in s d.view.opened) (times (s, q) d.view.cancelled) n) (times_elsewhere (s, q) (slot, r) d.started ne));
-      opened = λ c h. ⊎_elim (λ was. is.opened c was) (λ same. rw same was_opened) (either_pushed c h);
+      word = shut (started d (slot, r)) (λ q some_number. fails q _ _ _ (λ last _ zero. gone d.started q last zero))
+          (λ s q ne. ap (λ n. tests q (last_in s d.view.opened) (times (s, q) d.view.cancelled) n) (times_elsewhere (s, q) (slot, r) d.started ne));
+      opened = λ c h. ⊎_elim (λ was. is.opened c (omega arith)) (λ same. rw same was_opened) (either_pushed d.started c (times c d.view.cancelled) (omega arith));
       found = λ c h. times_grow c (slot, r) d.started (is.found c h);
     }
-      where
-        none : (q : ℕ) → 0 < q → is_open_request (started d (slot, r)) (slot, q) ≡ false
-        none q some_number = fails q _ _ _ (λ last _ zero. let more = times_hit (slot, r) (slot, r) d.started (is_request_itself (slot, r)) in
-            let here : times (slot, r) (d.started ++ (slot, r) ∷ []) ≡ 0 = subst (λ k. times (slot, k) (d.started ++ (slot, r) ∷ []) ≡ 0) (sym last ∙ at.0) zero in omega arith)
-
-        either_pushed : (c : ℕ × ℕ) → 0 < times c d.view.cancelled + times c (d.started ++ (slot, r) ∷ []) → (0 < times c d.view.cancelled + times c d.started) ⊎ (c ≡ (slot, r))
-        either_pushed c h = by_test (is_request c (slot, r))
-            (λ e. inr (same_request c (slot, r) e))
-            (λ e. let same = times_miss c (slot, r) d.started e in inl (omega arith))
 
   -- a try to cancel finds another word, and the words are as they were
   module _ (other_word : slice_index words slot ≢ r) where

@@ -40,6 +40,15 @@ counts-kept words d slot n is there = record {
   untaken = is.untaken;
 }
 
+-- a slot's word is set
+slot_set : (words : List ℕ) (d e : Desk) (slot n : ℕ) → WordsAgree words d → slot < MAX_REQUESTS → AreSlots (set words slot n) e
+    → ((ws : List ℕ) → AreCounts ws d → AreCounts ws e) → WordsAgree (set words slot n) e
+slot_set words d e slot n is there slots counts = record {
+  size = length-set words slot n ∙ is.size;
+  slots = slots;
+  counts = counts (set words slot n) (counts-kept words d slot n is.counts there);
+}
+
 -- and a slot's from an async's
 slots-kept : (words : List ℕ) (d : Desk) (a n : ℕ) → AreSlots words d → a < MAX_ASYNCS → AreSlots (set words (waiting_place a) n) d
 slots-kept words d a n is there = record {
@@ -52,11 +61,8 @@ pub opens_allowed : {S : Type 0} (slots slot r : ℕ) (v : History) (held : List
     → Allows Kept slots 0 (v, held) slot (λ _. r) (λ _ after. desk_of after.0 ≡ opened (desk_of v) (slot, r))
 opens_allowed slots slot r v held there above rises = moved slots slot v held (λ _. r) (λ _ e. e ≡ opened d (slot, r)) (λ words is. (
   opened d (slot, r),
-  (let counts = counts-kept words d slot r is.counts there in record {
-    size = length-set words slot r ∙ is.size;
-    slots = opened-slots words d slot r is.size is.slots there above rises;
-    counts = record { word = counts.word; sends = counts.sends; untaken = counts.untaken };
-  }),
+  slot_set words d (opened d (slot, r)) slot r is there (opened-slots words d slot r is.size is.slots there above rises)
+      (λ ws k. record { word = k.word; sends = k.sends; untaken = k.untaken }),
   refl,
 ))
   where
@@ -67,9 +73,6 @@ opens_allowed slots slot r v held there above rises = moved slots slot v held (�
 module _ (slot r : ℕ) (d : Desk) (words : List ℕ) (is : WordsAgree words d) (there : slot < MAX_REQUESTS) (above : 0 < r) where
   abbrev found : ℕ
   found = slice_index words slot
-
-  size : length (set words slot 0) ≡ MAX_REQUESTS + MAX_ASYNCS
-  size = length-set words slot 0 ∙ is.size
 
   -- it was found
   hit : found ≡ r → is_open_request d (slot, r) ≡ true
@@ -82,18 +85,14 @@ module _ (slot r : ℕ) (d : Desk) (words : List ℕ) (is : WordsAgree words d) 
   ]
 
   cancelled_agrees : found ≡ r → WordsAgree (set words slot 0) (cancelled d (slot, r))
-  cancelled_agrees e = let counts = counts-kept words d slot 0 is.counts there in record {
-    size = size;
-    slots = cancelled-slots words d slot r is.size is.slots there above (hit e);
-    counts = record { word = counts.word; sends = counts.sends; untaken = counts.untaken };
-  }
+  cancelled_agrees e =
+      slot_set words d (cancelled d (slot, r)) slot 0 is there (cancelled-slots words d slot r is.size is.slots there above (hit e))
+      (λ ws k. record { word = k.word; sends = k.sends; untaken = k.untaken })
 
   started_agrees : found ≡ r → WordsAgree (set words slot 0) (started d (slot, r))
-  started_agrees e = let counts = counts-kept words d slot 0 is.counts there in record {
-    size = size;
-    slots = started-slots words d slot r is.size is.slots there above (hit e);
-    counts = record { word = counts.word; sends = counts.sends; untaken = counts.untaken };
-  }
+  started_agrees e =
+      slot_set words d (started d (slot, r)) slot 0 is there (started-slots words d slot r is.size is.slots there above (hit e))
+      (λ ws k. record { word = k.word; sends = k.sends; untaken = k.untaken })
 
   -- it was not, and the word stays
   same : set words slot found ≡ words
@@ -144,50 +143,46 @@ module _ {S : Type 0} (slots a i : ℕ) (v : History) (held : List (ℕ × S)) (
   one_more : (n m : ℕ) → SendsAreCounted d n m → (words : List ℕ) → WordsAgree words d → (slice_index words (waiting_place a) + 1) % 2 ^ 64 ≡ slice_index words (waiting_place a) + 1
   one_more n m counted words is = mod-eq_of_lt (let few = within words d a is.size is.counts sized there n m counted in omega arith)
 
+  -- the async's word is set
+  word_set : (words : List ℕ) (n : ℕ) (e : Desk) → WordsAgree words d → ((ws : List ℕ) → AreSlots ws d → AreSlots ws e)
+      → AreCounts (set words (waiting_place a) n) e → WordsAgree (set words (waiting_place a) n) e
+  word_set words n e is same_slots counts = record {
+    size = length-set words (waiting_place a) n ∙ is.size;
+    slots = same_slots (set words (waiting_place a) n) (slots-kept words d a n is.slots there);
+    counts = counts;
+  }
+
+  -- one more is sent, by the loop or by another
+  one_sent : (F : ℕ → Desk)
+      → ((words : List ℕ) → WordsAgree words d → WordsAgree (set words (waiting_place a) (slice_index words (waiting_place a) + 1)) (F a))
+      → (n m : ℕ) → SendsAreCounted d n m
+      → Allows Kept slots 0 (v, held) i (λ k. (k + 1) % 2 ^ 64) (λ _ after. (b : ℕ) → i ≡ waiting_place b → desk_of after.0 ≡ F b)
+  one_sent F agrees n m counted = moved slots i v held (λ k. (k + 1) % 2 ^ 64) (λ _ e. (b : ℕ) → i ≡ waiting_place b → e ≡ F b) (λ words is. (
+    F a,
+    rw (place, one_more n m counted words is) (agrees words is),
+    told_there F (F a) refl,
+  ))
+
   pub sends_allowed : (n m : ℕ) → SendsAreCounted d n m
       → Allows Kept slots 0 (v, held) i (λ k. (k + 1) % 2 ^ 64) (λ _ after. (b : ℕ) → i ≡ waiting_place b → desk_of after.0 ≡ sent_own d b)
-  sends_allowed n m counted = moved slots i v held (λ k. (k + 1) % 2 ^ 64) (λ _ e. (b : ℕ) → i ≡ waiting_place b → e ≡ sent_own d b) (λ words is. (
-    sent_own d a,
-    rw (place, one_more n m counted words is) (agrees words is),
-    told_there (sent_own d) (sent_own d a) refl,
-  ))
-    where
-      agrees : (words : List ℕ) → WordsAgree words d → WordsAgree (set words (waiting_place a) (slice_index words (waiting_place a) + 1)) (sent_own d a)
-      agrees words is = let slots_are = slots-kept words d a (slice_index words (waiting_place a) + 1) is.slots there in record {
-        size = length-set words (waiting_place a) (slice_index words (waiting_place a) + 1) ∙ is.size;
-        slots = record { word = slots_are.word; opened = slots_are.opened; found = slots_are.found };
-        counts = own-counts words d a is.size is.counts sized there;
-      }
+  sends_allowed =
+      one_sent (sent_own d) (λ words is. word_set words _ (sent_own d a) is (λ ws k. record { word = k.word; opened = k.opened; found = k.found })
+      (own-counts words d a is.size is.counts sized there))
 
   pub gets_allowed : (n m : ℕ) → SendsAreCounted d n m
       → Allows Kept slots 0 (v, held) i (λ k. (k + 1) % 2 ^ 64) (λ _ after. (b : ℕ) → i ≡ waiting_place b → desk_of after.0 ≡ sent_by_another d b)
-  gets_allowed n m counted = moved slots i v held (λ k. (k + 1) % 2 ^ 64) (λ _ e. (b : ℕ) → i ≡ waiting_place b → e ≡ sent_by_another d b) (λ words is. (
-    sent_by_another d a,
-    rw (place, one_more n m counted words is) (agrees words is),
-    told_there (sent_by_another d) (sent_by_another d a) refl,
-  ))
-    where
-      agrees : (words : List ℕ) → WordsAgree words d → WordsAgree (set words (waiting_place a) (slice_index words (waiting_place a) + 1)) (sent_by_another d a)
-      agrees words is = let slots_are = slots-kept words d a (slice_index words (waiting_place a) + 1) is.slots there in record {
-        size = length-set words (waiting_place a) (slice_index words (waiting_place a) + 1) ∙ is.size;
-        slots = record { word = slots_are.word; opened = slots_are.opened; found = slots_are.found };
-        counts = others-counts words d a is.size is.counts sized there;
-      }
+  gets_allowed =
+      one_sent (sent_by_another d) (λ words is. word_set words _ (sent_by_another d a) is (λ ws k. record { word = k.word; opened = k.opened; found = k.found })
+      (others-counts words d a is.size is.counts sized there))
 
   pub takes_allowed : Allows Kept slots 0 (v, held) i (λ _. 0) (λ found after. (b : ℕ) → i ≡ waiting_place b → DeskTakes d b found (desk_of after.0))
   takes_allowed = moved slots i v held (λ _. 0) (λ found e. (b : ℕ) → i ≡ waiting_place b → DeskTakes d b found e) (λ words is. (
     taken d a,
-    rw place (agrees words is),
+    rw place (word_set words 0 (taken d a) is (λ ws k. record { word = k.word; opened = k.opened; found = k.found })
+        (taken-counts words d a is.size is.counts sized there)),
     told words is,
   ))
     where
-      agrees : (words : List ℕ) → WordsAgree words d → WordsAgree (set words (waiting_place a) 0) (taken d a)
-      agrees words is = let slots_are = slots-kept words d a 0 is.slots there in record {
-        size = length-set words (waiting_place a) 0 ∙ is.size;
-        slots = record { word = slots_are.word; opened = slots_are.opened; found = slots_are.found };
-        counts = taken-counts words d a is.size is.counts sized there;
-      }
-
       told : (words : List ℕ) → WordsAgree words d → (b : ℕ) → i ≡ waiting_place b → DeskTakes d b (slice_index words i) (taken d a)
       told words is b other =
           let same : a ≡ b = omega arith in

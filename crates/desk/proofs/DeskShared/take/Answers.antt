@@ -8,11 +8,10 @@ pub swap-requires : goal.swap-requires
 swap-requires c =
     let seat = c.self.inside.seat in
     let is = c.self.invariant in
-    let low = c.requires in
     let place = c.waiting_place.ensures in (
       is.0,
-      omega arith,
-      rw is.1 (takes_allowed _ c.args.async_no _ seat.me.0 seat.me.1 is.3 low place),
+      omega (arith, c.requires, is.2),
+      rw is.1 (takes_allowed _ c.args.async_no _ seat.me.0 seat.me.1 is.3 c.requires place),
     )
 
 pub invariant_of-self : goal.invariant_of-self

@@ -7,15 +7,11 @@ join_seat-requires c =
     let id = sym (ap (λ u. u.id) c.self.view_is) in
     let mine = ap (λ u. u.claims) c.seat.view_is ∙ c.requires.0 ∙ id in
     let theirs = ap (λ u. u.claims) c.worker.view_is ∙ c.requires.1 ∙ id in
-    let size = c.self.invariant.1 in
     let words = ap (λ t. t.words) mine in
-    let known = c.worker.invariant in
-    (mine, theirs, known.0, omega arith, joins_allowed _ _ _ _ known.1)
+    (mine, theirs, c.worker.invariant.0, omega (arith, c.self.invariant.1), joins_allowed _ _ _ _ c.worker.invariant.1)
 
 pub load-requires : goal.load-requires
 load-requires c =
-    let id = sym (ap (λ u. u.id) c.self.view_is) in
-    let mine = ap (λ u. u.claims) c.seat.view_is ∙ c.requires.0 ∙ id in
-    let size = c.self.invariant.1 in
+    let mine = ap (λ u. u.claims) c.seat.view_is ∙ c.requires.0 ∙ sym (ap (λ u. u.id) c.self.view_is) in
     let words = ap (λ t. t.words) mine in
-    (c.join_seat.ensures.0 ∙ mine, omega arith, looks_allowed _ _ _ _)
+    (c.join_seat.ensures.0 ∙ mine, omega (arith, c.self.invariant.1), looks_allowed _ _ _ _)

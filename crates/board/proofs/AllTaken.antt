@@ -1,13 +1,9 @@
 -- All passes, taken in one after another.
-use Rattle.std.proofs.Common.{◌≡◌, ℕ, zero, suc, ◌+◌, ◌<◌, List, [], ◌∷◌, ◌++◌, length, map, All, Some, slice_get, refl, sym, ap, ◌∙◌, subst, append_assoc, append-nil, arith}
-use Rattle.std.proofs.lemmas.List.{length-map, map-append}
-use Rattle.std.proofs.lemmas.List.Elements.{All-head, All-tail}
-use Rattle.std.proofs.lemmas.Option.{same_Some}
-use mathlib.Core.Option.{some, some-injective, some-ne-none}
-use lib.ListN.{get_elem?}
-use Rattle.order.specs.declared.reply.Reply.{Reply}
-use Rattle.board.specs.Views.{LineView, HandView, MakerView, IsWhole, maker_at, makers_at, with_hand}
-use Rattle.board.specs.Boards.{BoardView, PassView, GatheringView, IsPassOf, AreNumbered, IsNewGathering, IsGatheringOf, JoinsPass, AreAllIn, AreHandsOf, AreRepliesWhole, AreWhole}
+use Rattle.board.proofs.Words.{All, All-head, All-tail, ap, AreNumbered, arith, GatheringView, get_elem?, HandView, IsWhole, length, length-map, LineView, List}
+use Rattle.board.proofs.Words.{maker_at, makers_at, MakerView, map, map-append, refl, Reply, same_Some, slice_get, Some, some, some-injective, some-ne-none}
+use Rattle.board.proofs.Words.{subst, suc, sym, with_hand, zero, ℕ, [], ◌++◌, ◌+◌, ◌<◌, ◌∙◌, ◌∷◌, ◌≡◌}
+use Rattle.std.proofs.Common.{append_assoc, append-nil}
+use Rattle.board.specs.Boards.{BoardView, PassView, IsPassOf, IsNewGathering, IsGatheringOf, JoinsPass, AreAllIn, AreHandsOf, AreRepliesWhole, AreWhole}
 use Rattle.board.proofs.Makers.{lines_of}
 use Rattle.board.proofs.Taking.{below, nothing_at}
 

@@ -1,14 +1,10 @@
 -- What passes know where one steps, one is made or one is joined to another; and counts of what was given and taken.
-use Rattle.std.proofs.Common.{◌≡◌, ◌≢◌, ⊎_elim, ℕ, ◌+◌, List, [], ◌∷◌, ◌++◌, length, set, Bool, count_by, refl, sym, ap, ◌∙◌, subst, length-set, length-append, arith}
-use Rattle.std.proofs.lemmas.List.Sums.{sum_by_push}
-use mathlib.Core.Option.{some, some-ne-none}
-use lib.ListN.{get_elem?}
-use Rattle.atomic_table.proofs.Lists.{at_set, set_here, set_else, at_longer, at_last}
-use Rattle.tallies.proofs.Lists.{within, at_push, each_set, each_push, each_one, sum_set, sum_same, count_push, count_cons}
-use Rattle.board.specs.declared.line.Named.{Named}
-use Rattle.board.specs.declared.line.PassKnowledge.{PassKnowledge}
-use Rattle.board.specs.declared.line.LineKnowledge.{LineKnowledge}
-use Rattle.board.specs.Rule.{unit_if, knows, spent, with_given, with_taken, with_joined, IsLive, IsSpent, IsJoined, AreKnown, given_count, taken_count}
+use Rattle.board.proofs.Words.{ap, arith, at_last, at_longer, Bool, count_by, get_elem?, given_count, IsLive, knows, length, length-append, length-set}
+use Rattle.board.proofs.Words.{LineKnowledge, List, Named, PassKnowledge, refl, set, some, some-ne-none, subst, sum_by_push, sym, taken_count, unit_if, within}
+use Rattle.board.proofs.Words.{ℕ, [], ⊎_elim, ◌++◌, ◌+◌, ◌∙◌, ◌∷◌, ◌≡◌, ◌≢◌}
+use Rattle.atomic_table.proofs.Lists.{at_set, set_here, set_else}
+use Rattle.tallies.proofs.Lists.{at_push, each_set, each_push, each_one, sum_set, sum_same, count_push, count_cons}
+use Rattle.board.specs.Rule.{spent, with_given, with_taken, with_joined, IsSpent, IsJoined, AreKnown}
 
 module _ {T : Type 0} where
   none_joined : {P : Type 0} (i : ℕ) (u : PassKnowledge T) → get_elem? [] i ≡ some u → P

@@ -1,11 +1,7 @@
 -- A step on one of the lines of replies.
-use Rattle.std.proofs.Common.{◌≡◌, ℕ, zero, suc, ◌<◌, List, [], ◌∷◌, length, set, map, Option, Some, None, IfSome, IfNone, refl, sym, ap, ◌∙◌, subst, arith}
-use Rattle.std.specs.List.{slice_get}
-use Rattle.std.proofs.lemmas.List.{length-map}
-use Rattle.std.proofs.lemmas.Option.{same_Some}
-use Rattle.order.specs.declared.reply.Reply.{Reply}
-use Rattle.tallies.proofs.Places.{set_same}
-use Rattle.board.specs.Views.{LineView, HandView}
+use Rattle.board.proofs.Words.{ap, arith, HandView, length, length-map, LineView, List, map, None, refl, Reply, same_Some, set, set_same, slice_get, Some}
+use Rattle.board.proofs.Words.{subst, suc, sym, zero, ℕ, [], ◌<◌, ◌∙◌, ◌∷◌, ◌≡◌}
+use Rattle.std.proofs.Common.{Option, IfSome, IfNone}
 use Rattle.board.proofs.Makers.{same_part}
 use Rattle.board.specs.Boards.{BoardView, PassView, AreOfTheirLoops, IsPassOf, OnReplies}
 

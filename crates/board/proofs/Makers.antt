@@ -1,10 +1,8 @@
 -- The makers of some lines, of which the first so many have made a pass more.
-use Rattle.std.proofs.Common.{◌≡◌, ℕ, zero, suc, ◌+◌, List, [], ◌∷◌, ◌++◌, length, set, take, drop, get_or, map, Some, None, slice_get, All, refl, sym, ap, ◌∙◌, subst, arith}
+use Rattle.board.proofs.Words.{All, ap, arith, drop, get_or, HandView, length, LineView, List, maker_at, makers_at, MakerView, map, None, one_later, refl}
+use Rattle.board.proofs.Words.{Reply, same_Some, set, slice_get, Some, subst, suc, sym, take, zero, ℕ, [], ◌++◌, ◌+◌, ◌∙◌, ◌∷◌, ◌≡◌}
 use Rattle.std.specs.List.{AllByRecursion as ByRecursion}
 use Rattle.std.proofs.lemmas.List.Elements.{All-from_recursion}
-use Rattle.std.proofs.lemmas.Option.{same_Some}
-use Rattle.order.specs.declared.reply.Reply.{Reply}
-use Rattle.board.specs.Views.{LineView, HandView, MakerView, maker_at, makers_at, one_later}
 
 none_there : {A : Type 0} (x : A) → None ≡ Some x → ⊥
 none_there x e = cc

@@ -1,9 +1,6 @@
 -- Hands that are taken in, the last line's first.
-use Rattle.std.proofs.Common.{◌≡◌, ◌≢◌, ⊎_elim, ℕ, zero, suc, ◌+◌, ◌<◌, ◌≤◌, List, [], ◌∷◌, ◌++◌, length, set, map, Some, None, slice_get, refl, sym, ap, ◌∙◌, length-append, arith}
-use Rattle.std.proofs.lemmas.Option.{same_Some}
-use Rattle.std.proofs.lemmas.Bool.{cases_eq}
-use Rattle.order.specs.declared.reply.Reply.{Reply}
-use Rattle.board.specs.Views.{HandView, MakerView, with_hand}
+use Rattle.board.proofs.Words.{ap, arith, cases_eq, HandView, length, length-append, List, MakerView, map, None, refl, Reply, same_Some, set, slice_get, Some}
+use Rattle.board.proofs.Words.{suc, sym, with_hand, zero, ℕ, [], ⊎_elim, ◌++◌, ◌+◌, ◌<◌, ◌∙◌, ◌∷◌, ◌≡◌, ◌≢◌, ◌≤◌}
 use Rattle.board.specs.Boards.{GathersReplies}
 
 pub nothing_at : {A : Type 0} {P : Type 0} (x : A) → None ≡ Some x → P

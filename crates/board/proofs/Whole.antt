@@ -1,18 +1,13 @@
 -- What the pass to which all others were joined learns.
-use Rattle.std.proofs.Common.{◌≡◌, ℕ, zero, suc, ◌+◌, ◌<◌, ◌≤◌, List, [], ◌∷◌, length, map, Bool, nat_lt, count_by, sum_by, refl, sym, ap, ◌∙◌, subst, slice_index_or, arith}
-use Rattle.std.proofs.lemmas.List.{length-map}
+use Rattle.board.proofs.Words.{AllGiven, ap, arith, Bool, count_by, get_elem?, get_or_here, given_by, given_count, HandView, IsGiven, IsInOrder, IsLive}
+use Rattle.board.proofs.Words.{IsWhole, length, length-map, LineIsKept, LineKnowledge, List, maker_of, MakerView, map, Named, nat_lt, nat_tests, pass_of}
+use Rattle.board.proofs.Words.{PassKnowledge, refl, some, some-injective, some-ne-none, subst, suc, sym, taken_count, taken_times, times_named, unit_if, zero}
+use Rattle.board.proofs.Words.{ℕ, [], ◌+◌, ◌<◌, ◌∙◌, ◌∷◌, ◌≡◌, ◌≤◌}
+use Rattle.std.proofs.Common.{sum_by, slice_index_or}
 use Rattle.std.proofs.lemmas.List.Sums.{sum_by-cons}
-use Rattle.std.proofs.lemmas.Bool.Decides.{nat_tests}
-use mathlib.Core.Option.{some, some-injective, some-ne-none}
-use lib.ListN.{get_elem?}
 use Rattle.atomic_table.specs.Seated.{TableId}
 use Rattle.crossbeam_queue.specs.Fifo.{Learns}
-use Rattle.tallies.proofs.Lists.{get_or_here}
-use Rattle.board.specs.declared.line.Named.{Named}
-use Rattle.board.specs.declared.line.PassKnowledge.{PassKnowledge}
-use Rattle.board.specs.declared.line.LineKnowledge.{LineKnowledge}
-use Rattle.board.specs.Rule.{unit_if, pass_of, maker_of, given_by, times_named, taken_times, given_count, taken_count, IsLive, IsGiven, AllGiven, IsInOrder, LineIsKept}
-use Rattle.board.specs.Views.{HandView, MakerView, HasAll, IsWhole, hand_with, Counts}
+use Rattle.board.specs.Views.{HasAll, hand_with, Counts}
 use Rattle.board.proofs.Moves.{place, done}
 
 same_list : {A : Type 0} (l m : List A) → length l ≡ length m → ((i : ℕ) (a : A) → get_elem? m i ≡ some a → get_elem? l i ≡ some a) → l ≡ m

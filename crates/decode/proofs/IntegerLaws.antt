@@ -1,15 +1,11 @@
 -- Where no integer is read, at its last byte.
-use Rattle.std.proofs.Common.{◌≡◌, ℕ, ◌+◌, ◌-◌, ◌*◌, ◌<◌, ◌≤◌, List, [], ◌∷◌, ◌++◌, length, refl, ap, sym, ◌∙◌, append_assoc, length-append, arith, inl, inr, ℤ}
-use Rattle.std.specs.Prelude.{◌≢◌}
+use Rattle.decode.proofs.Words.{ap, append_assoc, arith, inl, inr, length, length-append, List, NoneLeaves, ReadingStop, refl, Refuses, spelled_residue, sym}
+use Rattle.decode.proofs.Words.{u32, ℕ, ℤ, [], ◌*◌, ◌++◌, ◌+◌, ◌-◌, ◌<◌, ◌∙◌, ◌∷◌, ◌≡◌, ◌≢◌, ◌≤◌}
 use Rattle.leb.specs.Spelling.{SpellsUnsigned, SpellsSigned, NoneStandsAt, greatest_length}
 use Rattle.leb.specs.LebFault.{RunsOn, IsOutOfRange}
 use Rattle.leb.specs.declared.fault.LebFault.{LebFault}
 use Rattle.leb.specs.declared.fault.LebFault.TheVariants as leb_fault
-use Rattle.syntax.specs.Language.{u32}
-use Rattle.syntax.specs.Instructions.{spelled_residue}
-use Rattle.decode.specs.declared.stop.ReadingStop.{ReadingStop}
 use Rattle.decode.specs.declared.fault.DecodeFault.TheVariants as faults
-use Rattle.decode.specs.Inner.Reading.{Refuses, NoneLeaves}
 use Rattle.decode.proofs.RefusalLaws.{cut, hence, ended}
 
 unsigned_short : (N k : ℕ) → N ≤ 7 * k → 0 < k → (text : List ℕ) (n : ℕ) → SpellsUnsigned N text n → length text ≤ k

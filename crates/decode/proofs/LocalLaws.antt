@@ -1,15 +1,10 @@
 -- Groups of locals that are read one behind the other.
-use Rattle.std.proofs.Common.{◌≡◌, ◌≤◌, ◌<◌, ◌+◌, ◌-◌, List, [], ◌∷◌, ◌++◌, ℕ, Result, Ok, Err, length, take, replicate, refl, ap, sym, ◌∙◌, append_assoc, append-nil, length-append, arith}
-use Rattle.std.proofs.lemmas.List.{take_all, length-replicate}
-use Rattle.std.specs.Borrow.{Bor}
-use Rattle.limits.specs.declared.TheConstants.{MAX_LOCALS}
-use Rattle.syntax.specs.declared.types.ValType.{ValType}
-use Rattle.syntax.specs.Language.{Language, items, u32, Leaves, IsPrefixFree}
-use Rattle.syntax.specs.Binary.{Locals, group, ungrouped}
-use Rattle.syntax.proofs.Joins.{joined, apart, items_none, free_u32, items_few}
-use Rattle.syntax.proofs.ModuleLaws.{free_group, leaves_locals}
-use Rattle.decode.specs.declared.stop.ReadingStop.{ReadingStop}
-use Rattle.decode.specs.Inner.Reading.{NoneLeaves, ReadsText}
+use Rattle.decode.proofs.Words.{ap, apart, append-nil, append_assoc, arith, Bor, Err, free_group, free_u32, IsPrefixFree, items, items_few, items_none, joined}
+use Rattle.decode.proofs.Words.{Language, Leaves, leaves_locals, length, length-append, List, Locals, MAX_LOCALS, NoneLeaves, Ok, ReadingStop, ReadsText, refl}
+use Rattle.decode.proofs.Words.{Result, sym, take, take_all, u32, ValType, ℕ, [], ◌++◌, ◌+◌, ◌-◌, ◌<◌, ◌∙◌, ◌∷◌, ◌≡◌, ◌≤◌}
+use Rattle.std.proofs.Common.{replicate}
+use Rattle.std.proofs.lemmas.List.{length-replicate}
+use Rattle.syntax.specs.Binary.{group, ungrouped}
 use Rattle.decode.specs.Inner.Locals.{LocalsOf}
 use Rattle.decode.proofs.Exits.{past}
 use Rattle.decode.proofs.RefusalLaws.{after}

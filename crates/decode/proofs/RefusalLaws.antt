@@ -1,12 +1,10 @@
 -- What is said of refused bytes, and of others that are the same up to the byte at fault.
-use Rattle.std.proofs.Common.{◌≡◌, ℕ, ◌+◌, ◌^◌, ◌<◌, ◌≤◌, List, [], ◌∷◌, ◌++◌, length, refl, ap, sym, subst, ◌∙◌, append_assoc, length-append, arith, inl, inr}
-use Rattle.std.specs.Prelude.{◌≢◌}
-use Rattle.syntax.specs.Language.{Language, Leaves, exactly, byte, counted}
-use Rattle.syntax.proofs.Joins.{apart, exactly_same, free_u32}
-use Rattle.decode.specs.declared.stop.ReadingStop.{ReadingStop}
+use Rattle.decode.proofs.Words.{ap, apart, append_assoc, arith, byte, counted, exactly, free_u32, inl, inr, Language, Leaves, length, length-append, List}
+use Rattle.decode.proofs.Words.{ReadingStop, refl, Refuses, StopsInside, subst, sym, ℕ, [], ◌++◌, ◌+◌, ◌<◌, ◌^◌, ◌∙◌, ◌∷◌, ◌≡◌, ◌≢◌, ◌≤◌}
+use Rattle.syntax.proofs.Joins.{exactly_same}
 use Rattle.decode.specs.declared.fault.DecodeFault.TheVariants as faults
 use Rattle.decode.specs.Modules.{IsOfAByte}
-use Rattle.decode.specs.Inner.Reading.{Refuses, IsRefusedSo, StopsInside}
+use Rattle.decode.specs.Inner.Reading.{IsRefusedSo}
 
 -- Where bytes are cut twice, the shorter front begins the longer one.
 pub record Cut (front mid far behind : List ℕ) : Type 0 where

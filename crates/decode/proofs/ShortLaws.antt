@@ -1,9 +1,6 @@
 -- What is read of a module's bytes, and what is left of them, is no longer than they are.
-use Rattle.std.proofs.Common.{◌≡◌, ℕ, ◌≤◌, List, [], ◌∷◌, ◌++◌, Bool, true, false, Option, Some, None, IfSome, if◌then◌else◌, length, ap, length-append, nat_eq, arith}
-use Rattle.std.specs.Prelude.{unwrap_or}
-use Rattle.limits.specs.declared.TheConstants.{MAX_MODULE_BYTES}
-use Rattle.syntax.specs.Language.{Language, Leaves, items, counted}
-use Rattle.syntax.specs.Binary.{Section, section, section_of, contents_of}
+use Rattle.decode.proofs.Words.{ap, arith, Bool, contents_of, counted, false, IfSome, if◌then◌else◌, items, Language, Leaves, length, length-append, List}
+use Rattle.decode.proofs.Words.{MAX_MODULE_BYTES, nat_eq, None, Option, Section, section, section_of, Some, true, unwrap_or, ℕ, [], ◌++◌, ◌∷◌, ◌≡◌, ◌≤◌}
 use Rattle.decode.specs.Inner.Reading.{FitsModule}
 
 pub left_short : {L : Language} {bytes rest : List ℕ} → FitsModule bytes → Leaves L bytes rest → FitsModule rest

@@ -1,12 +1,10 @@
 -- The parts of a room, after a place came in or went out.
-use Rattle.std.proofs.Common.{◌≡◌, ℕ, ◌+◌, ◌-◌, ◌<◌, ◌≤◌, List, ◌++◌, length, take, drop, sym, ap, ◌∙◌, arith, length-drop}
+use Rattle.handles.proofs.Words.{ap, arith, Check, count, Idle, insert, length, List, ListPlace, Parts, parts_of, remove, sym, Timer, with_part, ℕ, ◌+◌, ◌-◌}
+use Rattle.handles.proofs.Words.{◌<◌, ◌∙◌, ◌≡◌, ◌≤◌}
+use Rattle.std.proofs.Common.{◌++◌, take, drop, length-drop}
 use Rattle.std.proofs.Math.Seq.{take-append_seam, drop-append_seam, drop-append-add}
 use Rattle.std.proofs.lemmas.List.{take-append-drop, length-take-le, drop-drop}
-use Rattle.std.specs.List.{insert, remove}
 use Rattle.std.proofs.lemmas.List.Edits.{insert-append_left, insert-append_right, remove-append_left, remove-append_right, length-insert, length-remove}
-use Rattle.handles.specs.declared.handle.Kind.TheVariants.{Timer, Idle, Check}
-use Rattle.handles.specs.declared.sorted.ListPlace.{ListPlace}
-use Rattle.handles.specs.Inner.Parts.{Parts, parts_of, with_part, count}
 
 -- three lists, one behind the other, have them as their parts
 parted : (a b c : List ListPlace) (i j : ℕ) → i ≡ length a → j ≡ length a + length b → ◌≡◌ {A = Parts} (parts_of (a ++ (b ++ c)) i j) (record { idle = a; check = b; timers = c })

@@ -1,10 +1,7 @@
 -- Where a search that looks at the last first has ended.
-use Rattle.std.proofs.Common.{◌≡◌, ℕ, ◌+◌, ◌<◌, ◌≤◌, true, List, length, get_or, refl, ap, arith}
-use Rattle.std.specs.declared.cmp.Ordering.{Ordering}
-use Rattle.std.specs.declared.cmp.Ordering.TheVariants.{Less, Equal, Greater}
-use Rattle.std.specs.Ordering.{is_lt, ordering_index}
+use Rattle.handles.proofs.Words.{ap, arith, Equal, get_or, Greater, is_lt, IsNonDecreasingBy, IsPartitionPoint, length, Less, List, Ordering, ordering_index}
+use Rattle.handles.proofs.Words.{refl, true, ℕ, ◌+◌, ◌<◌, ◌≡◌, ◌≤◌}
 use Rattle.std.specs.List.{HoldsAt}
-use Rattle.std.specs.List.Sorted.{IsNonDecreasingBy, IsPartitionPoint}
 
 least : (r : Ordering) → ordering_index r ≤ 0 → r ≡ Less
 least Less h = refl

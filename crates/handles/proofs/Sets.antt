@@ -1,13 +1,9 @@
 -- The lists of all kinds, and the parts of a room that they are made of.
-use Rattle.std.proofs.Common.{◌≡◌, ◌≢◌, ℕ, ◌+◌, ◌≤◌, List, Option, Some, None, refl, cond, true, false, arith}
+use Rattle.handles.proofs.Words.{ActiveLists, arith, Async, Check, cond, count, false, how_many_listed, Idle, Kind, len, List, list, ListPlace, lists_of, None}
+use Rattle.handles.proofs.Words.{Option, part, Parts, PartsRise, place_cmp, PlaceSet, refl, set_of_sorted, Some, Timer, true, with, with_list, with_part, ℕ}
+use Rattle.handles.proofs.Words.{◌+◌, ◌≡◌, ◌≢◌, ◌≤◌}
 use Rattle.std.specs.FinMap as set
-use Rattle.std.specs.FinMap.{len}
-use Rattle.handles.specs.declared.handle.Kind.{Kind}
-use Rattle.handles.specs.declared.handle.Kind.TheVariants.{Timer, Idle, Check, Async}
-use Rattle.handles.specs.declared.sorted.ListPlace.{ListPlace}
-use Rattle.handles.specs.Place.{PlaceSet, place_cmp, set_of_sorted, PlacesRise, with}
-use Rattle.handles.specs.Inner.Parts.{Parts, part, with_part, count}
-use Rattle.handles.specs.Inner.Lists.{ActiveLists, lists_of, PartsRise, list, with_list, how_many_listed}
+use Rattle.handles.specs.Place.{PlacesRise}
 use Rattle.handles.proofs.Places.{places_total}
 use Rattle.handles.proofs.RisingLists.{HasGap, len_of, len_with_new}
 

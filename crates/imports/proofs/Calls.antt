@@ -1,10 +1,8 @@
 -- The functions behind the imports, as they are found one by one.
-use Rattle.std.proofs.Common.{◌≡◌, ◌⊎◌, inl, inr, ℕ, zero, suc, ◌+◌, ◌<◌, ◌≤◌, List, [], ◌∷◌, length, Option, Some, None, MatchOption, unwrap_or, refl, ◌∙◌, arith}
-use Rattle.std.specs.Prelude.{slice_get, slice_set}
+use Rattle.imports.proofs.Words.{arith, Call, Contents, length, Now, refl, slice_get, Some, ℕ, ◌<◌, ◌∙◌, ◌≡◌}
+use Rattle.std.proofs.Common.{◌⊎◌, inl, inr, zero, suc, ◌+◌, ◌≤◌, List, [], ◌∷◌, Option, None, MatchOption, unwrap_or}
+use Rattle.std.specs.Prelude.{slice_set}
 use Rattle.std.proofs.lemmas.Bool.{cases_lt}
-use Rattle.syntax.specs.declared.contents.Contents.{Contents}
-use Rattle.imports.specs.declared.call.Call.{Call}
-use Rattle.imports.specs.declared.call.Call.TheVariants.{Now}
 use Rattle.imports.specs.Linking.{Imports}
 
 put_there : (calls : List Call) (at : ℕ) (c : Call) → at < length calls → slice_get (slice_set calls at c) at ≡ Some c

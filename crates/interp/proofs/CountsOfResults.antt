@@ -1,13 +1,8 @@
 -- How many results a function has, and what ends without any.
-use Rattle.interp.proofs.Words.{◌≡◌, ℕ, ◌≤◌, List, [], length, refl, arith, slice_get_within}
-use Rattle.interp.proofs.Words.{Value, Contents, FuncType, ValidModule, HasFunctionType}
-use Rattle.std.proofs.lemmas.Option.{get_or_from_slice_get}
-use Rattle.reduction.specs.Invoking.{TakesArguments}
-use Rattle.events.specs.Bare.{whole_ending}
+use Rattle.interp.proofs.Words.{arith, BareEnding, Contents, ending_with, FuncType, get_or_from_slice_get, HasFunctionType, length, List, refl, result_count}
+use Rattle.interp.proofs.Words.{slice_get_within, TakesArguments, ValidModule, Value, whole_ending, ℕ, [], ◌≡◌, ◌≤◌}
 use Rattle.events.specs.declared.ended.Ending.TheVariants as ending
-use Rattle.events.specs.declared.ended.BareEnding.{BareEnding}
 use Rattle.events.specs.declared.ended.BareEnding.TheVariants as bare
-use Rattle.interp.specs.Lent.{result_count, ending_with}
 
 pub count_is : (m : Contents) (function : ℕ) (type : FuncType) → HasFunctionType m function type → result_count m function ≡ length type.results
 count_is m function type h = rw (h.1, h.2) refl

@@ -1,14 +1,5 @@
 -- A call that is under way on a machine.
-use Rattle.std.proofs.Common.{◌≡◌, ℕ, List, ◌++◌, length, take}
-use Rattle.std.proofs.Math.Seq.{take-append_seam}
-use Rattle.syntax.specs.declared.types.Value.{Value}
-use Rattle.syntax.specs.declared.contents.Contents.{Contents}
-use Rattle.validate.specs.declared.side_table.SideTable.{SideTable}
-use Rattle.instance.specs.Store.{Store}
-use Rattle.instance.specs.declared.stack.Caller.{Caller}
-use Rattle.reduction.specs.Run.{HostCall}
-use Rattle.interp.specs.declared.paused.Paused.{Paused}
-use Rattle.interp.specs.Slices.{RunIsPaused}
+use Rattle.interp.proofs.Words.{Caller, Contents, HostCall, length, List, Paused, RunIsPaused, SideTable, Store, take, take-append_seam, Value, ℕ, ◌++◌, ◌≡◌}
 
 -- the same of an equal module, equal tables and equal callers
 module _ {H : Type 0} (moves : H → HostCall → H → Type 0) (m m' : Contents) (ts ts' : List SideTable) (fs fs' : List Caller) (em : m ≡ m') (et : ts ≡ ts') (ef : fs ≡ fs') where

@@ -1,11 +1,6 @@
 -- The types of a module's functions.
-use Rattle.std.proofs.Common.{◌≡◌, ℕ, Option, Some, None, refl}
-use Rattle.std.specs.List.{slice_get}
+use Rattle.order.proofs.Words.{Contents, function_types, FuncType, HasFunctionType, None, Option, refl, slice_get, Some, type_of_function, ℕ, ◌≡◌}
 use Rattle.std.specs.Option.{option_and_then}
-use Rattle.syntax.specs.declared.contents.Contents.{Contents}
-use Rattle.syntax.specs.declared.contents.FuncType.{FuncType}
-use Rattle.validate.specs.Typing.{function_types, HasFunctionType}
-use Rattle.validate.specs.Typing.{type_of_function}
 
 -- a function's type, found in either way
 pub has_type : (m : Contents) (f : ℕ) (type : FuncType) → type_of_function m f ≡ Some type → HasFunctionType m f type

@@ -1,18 +1,11 @@
 -- The types of a linked module's imports.
-use Rattle.std.proofs.Common.{◌≡◌, ◌<◌, ℕ, List, [], ◌∷◌, ◌++◌, length, map, Option, Some, None, refl, sym, ap, subst, ◌∙◌, arith, unwrap_or, zero, suc}
-use Rattle.std.specs.List.{slice_get}
-use Rattle.std.specs.Option.{option_map}
+use Rattle.order.proofs.Words.{ap, arith, Call, Contents, function_types, FuncType, Import, Imports, IsLinked, List, Names, None, Option, option_map, refl}
+use Rattle.order.proofs.Words.{slice_get, Some, subst, sym, type_of_call, type_of_function, ValType, Value, ℕ, [], ◌∙◌, ◌∷◌, ◌≡◌}
+use Rattle.std.proofs.Common.{◌<◌, ◌++◌, length, map, unwrap_or, zero, suc}
 use Rattle.std.proofs.lemmas.Option.{slice_get-map, get_or_from_slice_get}
-use Rattle.syntax.specs.declared.contents.Contents.{Contents}
-use Rattle.syntax.specs.declared.contents.FuncType.{FuncType}
-use Rattle.syntax.specs.declared.contents.Import.{Import}
-use Rattle.syntax.specs.declared.types.Value.{Value}
-use Rattle.syntax.specs.declared.types.ValType.{ValType}
-use Rattle.validate.specs.Typing.{function_types, type_of_function, type_of}
-use Rattle.reduction.specs.Hosting.{TakesParams, Names}
-use Rattle.imports.specs.declared.call.Call.{Call}
-use Rattle.imports.specs.Uv.{type_of_call}
-use Rattle.imports.specs.Linking.{IsLinked, IsKnown, Imports}
+use Rattle.validate.specs.Typing.{type_of}
+use Rattle.reduction.specs.Hosting.{TakesParams}
+use Rattle.imports.specs.Linking.{IsKnown}
 use Rattle.order.specs.ImportTypes.{import_type, import_types}
 
 at_map : {X Y : Type 0} (f : X → Y) (xs : List X) (k : ℕ) (x : X) → slice_get xs k ≡ Some x → slice_get (map f xs) k ≡ Some (f x)

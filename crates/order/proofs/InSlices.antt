@@ -1,44 +1,19 @@
 -- An order that ran in slices.
-use Rattle.std.proofs.Common.{◌≡◌, ℕ, ◌+◌, ◌-◌, ◌<◌, ◌≤◌, List, [], ◌∷◌, length, reverse, Option, Some, None, codes, refl, sym, ap, ◌∙◌, subst, arith, inl, inr}
+use Rattle.order.proofs.Words.{AreResults, Computes, ExportsFunction, HasFunctionType, type_of_call, type_of_entry, type_of_function, ValidModule, WorkAnswered}
+use Rattle.order.proofs.Words.{ComputesTo, Contents, end_of_run, FuncType, HostCall, I32, imported, IsLinked, Returned, StartRun, WorkHost, WorkOrder, WorkStop}
+use Rattle.order.proofs.Words.{arith, Caller, defined, Ending, EndsAs, Invokes, IsFresh, Now, Option, Paused, Return, reverse, RunEnd, Serves, ValType, WorkEnd}
+use Rattle.order.proofs.Words.{ap, Call, codes, Ended, Halt, List, None, refl, Some, Store, subst, sym, Value, Work, ℕ, [], ◌+◌, ◌-◌, ◌∙◌, ◌∷◌, ◌≡◌}
+use Rattle.std.proofs.Common.{◌<◌, ◌≤◌, length, inl, inr}
 use Rattle.std.proofs.lemmas.Bool.{cases_lt}
-use Rattle.syntax.specs.declared.types.Value.{Value}
-use Rattle.syntax.specs.declared.types.Value.TheVariants.{I32}
-use Rattle.instance.specs.Store.{Store}
-use Rattle.instance.specs.Fresh.{IsFresh}
-use Rattle.instance.specs.Stops.{Halt}
-use Rattle.syntax.specs.declared.contents.Contents.{Contents}
-use Rattle.syntax.specs.declared.contents.FuncType.{FuncType}
-use Rattle.validate.specs.Typing.{HasFunctionType, type_of_function}
-use Rattle.reduction.specs.Run.{Returned, HostCall, RunEnd}
-use Rattle.reduction.specs.Invoking.{Invokes, defined, imported, TakesArguments}
+use Rattle.reduction.specs.Invoking.{TakesArguments}
 use Rattle.reduction.proofs.OneRun.{not_both}
-use Rattle.reduction.specs.Running.{end_of_run}
-use Rattle.events.specs.declared.ended.Ended.{Ended}
-use Rattle.events.specs.declared.ended.Ending.{Ending}
-use Rattle.events.specs.declared.ended.Ending.TheVariants.{Return}
-use Rattle.reduction.specs.Running.{AreResults}
-use Rattle.syntax.specs.declared.types.ValType.{ValType}
-use Rattle.imports.specs.Linking.{IsLinked, ExportsFunction}
-use Rattle.imports.specs.Uv.{type_of_call, type_of_entry}
-use Rattle.imports.specs.declared.entry_point.EntryPoint.TheVariants.{Work}
-use Rattle.imports.specs.declared.call.Call.{Call}
-use Rattle.imports.specs.declared.call.Call.TheVariants.{Now}
-use Rattle.interp.specs.Slices.{RunIsOver}
+use Rattle.interp.specs.Slices.{RunIsOver, RunIsPaused}
 use Rattle.order.specs.Slices.{OrderGoesOn}
 use Rattle.order.specs.declared.running.OrderGoing.{OrderGoing}
 use Rattle.order.specs.declared.running.OrderGoing.TheVariants.{Over, Paused as PausedAgain}
-use Rattle.validate.specs.Valid.{ValidModule}
 use Rattle.validate.specs.Targets.{AreTables}
 use Rattle.validate.specs.declared.side_table.SideTable.{SideTable}
-use Rattle.instance.specs.declared.stack.Caller.{Caller}
-use Rattle.interp.specs.declared.paused.Paused.{Paused}
-use Rattle.interp.specs.Slices.{RunIsPaused}
 use Rattle.interp.proofs.Slots.OtherHosts.{came_by}
-use Rattle.order.specs.declared.host.WorkHost.{WorkHost}
-use Rattle.order.specs.Inner.Serving.{Serves}
-use Rattle.order.specs.Inner.WorkHosting.{WorkAnswered}
-use Rattle.order.specs.Stopping.{WorkStop, ComputesTo}
-use Rattle.order.specs.Work.{WorkOrder, WorkEnd, Computes, StartRun, EndsAs}
 use Rattle.order.specs.Work as work
 use Rattle.order.specs.Stopping as stopping
 use Rattle.order.specs.Inner.Going.{StartIsOver}

@@ -1,3 +1,4 @@
+pub mod Words
 pub mod Modules
 pub mod ImportTypes
 pub mod FunctionTypes

@@ -1,7 +1,5 @@
 -- Modules with the same bytes are the same.
-use Rattle.std.proofs.Common.{◌≡◌, ℕ, List, subst}
-use Rattle.syntax.specs.declared.contents.Contents.{Contents}
-use Rattle.syntax.specs.Loaded.{Loaded}
+use Rattle.order.proofs.Words.{Contents, List, Loaded, subst, ℕ, ◌≡◌}
 use Rattle.syntax.specs.Binary.{Spells}
 
 pub same_loaded : ((bytes : List ℕ) (c d : Contents) → Spells bytes c → Spells bytes d → c ≡ d)

@@ -1,24 +1,13 @@
 -- An order has one end.
-use Rattle.std.proofs.Common.{◌≡◌, ℕ, ◌+◌, ◌-◌, List, [], ◌∷◌, Option, Some, None, refl, sym, ap, ◌∙◌, subst}
-use Rattle.std.specs.Prelude.{codes}
-use Rattle.std.specs.List.{slice_get}
-use Rattle.syntax.specs.declared.types.Value.{Value}
-use Rattle.syntax.specs.declared.types.Value.TheVariants.{I32}
-use Rattle.syntax.specs.declared.contents.Contents.{Contents}
-use Rattle.syntax.specs.declared.contents.Import.{Import}
+use Rattle.order.proofs.Words.{ap, AreNamedApart, Call, codes, Computes, Contents, EndsAs, ExportsFunction, HostCall, I32, Import, Imports, InCopy, InLen}
+use Rattle.order.proofs.Words.{IsFresh, List, None, Now, Option, OutSet, refl, Returned, RunEnd, slice_get, Some, StartRun, Store, subst, sym, ValidModule}
+use Rattle.order.proofs.Words.{Value, WorkEnd, WorkOrder, ℕ, [], ◌+◌, ◌-◌, ◌∙◌, ◌∷◌, ◌≡◌}
 use Rattle.syntax.specs.declared.contents.ModuleExport.{ModuleExport}
-use Rattle.validate.specs.Valid.{ValidModule, DistinctNames}
-use Rattle.instance.specs.Store.{Store}
-use Rattle.instance.specs.Fresh.{IsFresh}
-use Rattle.reduction.specs.Run.{HostCall, RunEnd, Returned}
+use Rattle.validate.specs.Valid.{DistinctNames}
 use Rattle.reduction.specs.Hosting.{IsDetermined}
 use Rattle.reduction.proofs.OneCall.{one_call}
-use Rattle.imports.specs.declared.call.Call.{Call}
-use Rattle.imports.specs.declared.call.Call.TheVariants.{Now, InLen, InCopy, OutSet}
-use Rattle.imports.specs.Linking.{Imports, ExportsFunction}
-use Rattle.imports.specs.Uv.{AreNamedApart}
 use Rattle.order.specs.Uv.Bytes.{copied_in, set_out}
-use Rattle.order.specs.Work.{WorkOrder, WorkEnd, EndsAs, GivesAnswer, WorkAnswers, WorkCall, WorkRun, StartRun, Computes, Works, stops, works}
+use Rattle.order.specs.Work.{GivesAnswer, WorkAnswers, WorkCall, WorkRun, Works, stops, works}
 
 -- an import is one function of the host
 pub one_import : AreNamedApart → (m : Contents) (number : ℕ) (f g : Call) → Imports m number f → Imports m number g → f ≡ g

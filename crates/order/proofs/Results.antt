@@ -1,19 +1,10 @@
 -- The results of the calls of an order: the start function has none, `uv_work` has one.
-use Rattle.std.proofs.Common.{◌≡◌, ℕ, List, [], ◌∷◌, Some, length, take, get_or, refl, ap, ◌∙◌}
-use Rattle.syntax.specs.declared.types.Value.{Value}
-use Rattle.syntax.specs.declared.contents.Contents.{Contents}
-use Rattle.validate.specs.Typing.{type_of_function}
-use Rattle.validate.specs.Valid.{ValidModule}
-use Rattle.events.specs.Bare.{whole, whole_ending}
+use Rattle.order.proofs.Words.{ap, BareEnding, Contents, Ended, ended_in, ended_with, Ending, List, refl, Return, Some, type_of_entry, type_of_function}
+use Rattle.order.proofs.Words.{ValidModule, Value, whole, whole_ending, Work, ℕ, [], ◌∙◌, ◌∷◌, ◌≡◌}
+use Rattle.std.proofs.Common.{length, take, get_or}
 use Rattle.events.specs.declared.ended.BareEnded.{BareEnded}
-use Rattle.events.specs.declared.ended.BareEnding.{BareEnding}
 use Rattle.events.specs.declared.ended.BareEnding.TheVariants as bare
-use Rattle.events.specs.declared.ended.Ended.{Ended}
-use Rattle.events.specs.declared.ended.Ending.{Ending}
-use Rattle.events.specs.declared.ended.Ending.TheVariants.{Return}
-use Rattle.imports.specs.declared.entry_point.EntryPoint.TheVariants.{Work}
-use Rattle.imports.specs.Uv.{type_of_entry}
-use Rattle.interp.specs.Lent.{result_count, ended_with, ended_in}
+use Rattle.interp.specs.Lent.{result_count}
 use Rattle.interp.proofs.CountsOfResults.{count_is, without_results}
 
 pub not_whole : (end : BareEnding) → (end ≡ bare.Return → ⊥) → (values : List Value) → whole_ending end ≡ Return values → ⊥

@@ -1,22 +1,17 @@
 -- The bytes of a reply are as many as may be set at most.
-use Rattle.std.proofs.Common.{◌≡◌, ◌≤◌, ℕ, ◌+◌, true, false, cond, List, [], ◌∷◌, length, drop, Option, Some, None, refl, arith}
+use Rattle.order.proofs.Words.{arith, Call, Computes, EndsAs, HostCall, I32, InCopy, InLen, Lawful, List, None, Option, OutSet, refl, Returned, RunEnd, Some}
+use Rattle.order.proofs.Words.{StartRun, Store, Value, WorkEnd, WorkOrder, ℕ, [], ◌+◌, ◌∷◌, ◌≡◌}
+use Rattle.std.proofs.Common.{◌≤◌, true, false, cond, length, drop}
 use Rattle.std.specs.Prelude.{nat_lt}
 use Rattle.std.specs.Coded.{le_prop}
 use Rattle.std.proofs.Math.Logic.{∥∥₁_elim}
 use Rattle.std.proofs.lemmas.Bool.{ltb-false}
 use Rattle.std.proofs.lemmas.List.{length-take}
 use Rattle.limits.specs.declared.TheConstants.{MAX_BYTES}
-use Rattle.syntax.specs.declared.types.Value.{Value}
-use Rattle.syntax.specs.declared.types.Value.TheVariants.{I32}
-use Rattle.instance.specs.Store.{Store}
-use Rattle.reduction.specs.Run.{HostCall, RunEnd, Returned}
-use Rattle.reduction.specs.Hosting.{Lawful}
 use Rattle.reduction.proofs.StepByStep.{steps_keep}
-use Rattle.imports.specs.declared.call.Call.{Call}
-use Rattle.imports.specs.declared.call.Call.TheVariants.{InLen, InCopy, OutSet}
 use Rattle.order.specs.declared.uv.answers.TheConstants.{INVALID, OUTSIDE_MEMORY}
 use Rattle.order.specs.Uv.Bytes.{set_out, taken_out}
-use Rattle.order.specs.Work.{WorkOrder, WorkEnd, Done, EndsAs, WorkAnswers, WorkCall, StartRun, Computes, stops, works, IsEndOf, IsShortEnd}
+use Rattle.order.specs.Work.{Done, WorkAnswers, WorkCall, stops, works, IsEndOf, IsShortEnd}
 
 abbrev IsShort : List ℕ → Type 0
 IsShort bytes = length bytes ≤ MAX_BYTES

@@ -1,31 +1,19 @@
 -- An order under way stands where it would stop if it had just so much fuel as it has used.
-use Rattle.std.proofs.Common.{◌≡◌, ℕ, ◌+◌, ◌-◌, ◌≤◌, List, [], ◌∷◌, length, Option, Some, None, refl, subst, arith}
+use Rattle.order.proofs.Words.{arith, Caller, Contents, defined, Ended, HostCall, I32, imported, Invokes, IsAtStage, IsStarting, IsWorking, List, None, Option}
+use Rattle.order.proofs.Words.{Paused, refl, Returned, RunEnd, RunStage, Serves, Some, StartRun, stop_of, Store, subst, used_in_stage, Value, WorkAnswered}
+use Rattle.order.proofs.Words.{WorkHost, WorkOrder, WorkStop, ℕ, [], ◌+◌, ◌-◌, ◌∷◌, ◌≡◌}
+use Rattle.std.proofs.Common.{◌≤◌, length}
 use Rattle.std.specs.Prelude.{IfSome, IsSome}
 use Rattle.limits.specs.declared.TheConstants.{MAX_DEPTH}
-use Rattle.syntax.specs.declared.types.Value.{Value}
-use Rattle.syntax.specs.declared.types.Value.TheVariants.{I32}
-use Rattle.syntax.specs.declared.contents.Contents.{Contents}
-use Rattle.instance.specs.Store.{Store}
-use Rattle.instance.specs.declared.stack.Caller.{Caller}
 use Rattle.instance.specs.declared.stack.Last.{Last}
-use Rattle.instance.specs.Stops.{halt_of, stop_of}
-use Rattle.reduction.specs.Run.{HostCall, RunEnd, Returned, OutOfFuel}
-use Rattle.reduction.specs.Invoking.{Invokes, defined, imported}
-use Rattle.events.specs.declared.ended.Ended.{Ended}
+use Rattle.instance.specs.Stops.{halt_of}
+use Rattle.reduction.specs.Run.{OutOfFuel}
 use Rattle.events.specs.declared.ended.Ending.TheVariants as ending
-use Rattle.interp.specs.declared.paused.Paused.{Paused}
 use Rattle.interp.specs.Slices.{RunIsOver, RunStandsAt}
-use Rattle.order.specs.declared.host.WorkHost.{WorkHost}
 use Rattle.order.specs.declared.machine.WorkMachine.{WorkMachine}
-use Rattle.order.specs.Inner.Serving.{Serves}
-use Rattle.order.specs.Inner.WorkHosting.{WorkAnswered}
-use Rattle.order.specs.Inner.Going.{IsStarting, IsWorking, IsAtStage, used_in_stage}
-use Rattle.order.specs.declared.stage.RunStage.{RunStage}
 use Rattle.order.specs.declared.stage.RunStage.TheVariants.{Fresh, Starting, Working}
 use Rattle.order.specs.Slices.{with_fuel, OrderStandsAt}
-use Rattle.order.specs.Stopping.{WorkStop}
 use Rattle.order.specs.Stopping as stopping
-use Rattle.order.specs.Work.{WorkOrder, StartRun}
 use Rattle.order.proofs.WorkHostAnswers.{not_returned, work_stops}
 
 -- what has not spent its fuel needs no more than it used

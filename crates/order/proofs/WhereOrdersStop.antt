@@ -1,20 +1,9 @@
 -- Where the run of an order stopped.
-use Rattle.std.proofs.Common.{◌≡◌, ◌≢◌, ℕ, ◌+◌, ◌-◌, List, [], ◌∷◌, Option, Some, None, reverse, codes, refl, sym, subst}
-use Rattle.std.specs.Option.{option_map}
-use Rattle.syntax.specs.declared.types.Value.{Value}
-use Rattle.syntax.specs.declared.types.Value.TheVariants.{I32}
-use Rattle.instance.specs.Store.{Store}
-use Rattle.instance.specs.Fresh.{IsFresh}
-use Rattle.instance.specs.Stops.{Halt}
-use Rattle.reduction.specs.Run.{Returned}
-use Rattle.reduction.specs.Running.{end_of_run}
-use Rattle.events.specs.declared.ended.Ended.{Ended}
-use Rattle.events.specs.declared.ended.Ending.{Ending}
-use Rattle.events.specs.declared.ended.Ending.TheVariants.{Return}
-use Rattle.imports.specs.Linking.{ExportsFunction}
-use Rattle.order.specs.Stopping.{WorkStop, ComputesTo, LeavesTrail, StoppedIsComputed, stops, works}
+use Rattle.order.proofs.Words.{codes, Computes, ComputesTo, end_of_run, Ended, Ending, EndsAs, ExportsFunction, Halt, I32, IsFresh, List, NoMemory, None}
+use Rattle.order.proofs.Words.{Option, option_map, refl, Return, Returned, reverse, Some, StartRun, Store, subst, sym, Value, WorkEnd, WorkOrder, WorkStop, ℕ}
+use Rattle.order.proofs.Words.{[], ◌+◌, ◌-◌, ◌∷◌, ◌≡◌, ◌≢◌}
+use Rattle.order.specs.Stopping.{LeavesTrail, StoppedIsComputed, stops, works}
 use Rattle.order.specs.Trails.{Innermost, innermost_sites}
-use Rattle.order.specs.Work.{WorkOrder, WorkEnd, NoMemory, StartRun, Computes, EndsAs}
 use Rattle.order.specs.Work as work
 use Rattle.order.proofs.WorkHostAnswers.{not_returned}
 

@@ -1,35 +1,12 @@
 -- What the host of a work function answers, over a whole run.
-use Rattle.std.proofs.Common.{◌≡◌, ◌≢◌, ℕ, List, [], ◌∷◌, refl, ap, subst, ◌∙◌}
-use Rattle.syntax.specs.declared.types.Value.{Value}
-use Rattle.syntax.specs.Loaded.{Loaded}
-use Rattle.reduction.specs.Run.{HostCall}
-use Rattle.reduction.specs.Hosting.{Lawful}
+use Rattle.order.proofs.Words.{ap, AreNamedApart, codes, Computes, end_of_run, Ended, Ending, EndsAs, ExportsFunction, Halt, HostCall, I32, Imports, Invokes}
+use Rattle.order.proofs.Words.{IsFresh, IsLinked, Lawful, List, Loaded, Names, NoMemory, Option, refl, Return, Returned, reverse, Serves, StartRun, Store}
+use Rattle.order.proofs.Words.{subst, ValidModule, Value, WorkAnswered, WorkEnd, WorkHost, WorkOrder, WorkStop, ℕ, [], ◌+◌, ◌-◌, ◌∙◌, ◌∷◌, ◌≡◌, ◌≢◌}
 use Rattle.reduction.proofs.StepByStep.{steps_map}
-use Rattle.imports.specs.Linking.{Imports}
-use Rattle.order.specs.declared.host.WorkHost.{WorkHost}
-use Rattle.order.specs.Work.{WorkOrder, WorkEnd, Done, Trap, Depth, Spent, NoMemory, WorkAnswers, WorkCall, Works, IsTheEnd, IsEndOf}
-use Rattle.order.specs.Inner.WorkHosting.{WorkAnswered}
-use Rattle.order.specs.Inner.Serving.{Serves}
-use Rattle.std.proofs.Common.{reverse, ◌+◌, ◌-◌, Option, codes}
-use Rattle.syntax.specs.declared.types.Value.TheVariants.{I32}
-use Rattle.validate.specs.Valid.{ValidModule}
-use Rattle.instance.specs.Store.{Store}
-use Rattle.instance.specs.Fresh.{IsFresh}
-use Rattle.instance.specs.Stops.{Halt}
-use Rattle.reduction.specs.Hosting.{Names}
-use Rattle.reduction.specs.Invoking.{Invokes}
+use Rattle.order.specs.Work.{Done, Trap, Depth, Spent, WorkAnswers, WorkCall, Works, IsTheEnd, IsEndOf, WorkRun, Uses, stops, works}
 use Rattle.reduction.specs.Leading.{Leads, calling, scene}
 use Rattle.reduction.specs.Stopping.{StopsAt}
-use Rattle.reduction.specs.Running.{end_of_run}
-use Rattle.reduction.specs.Run.{Returned}
-use Rattle.events.specs.declared.ended.Ended.{Ended}
-use Rattle.events.specs.declared.ended.Ending.{Ending}
-use Rattle.events.specs.declared.ended.Ending.TheVariants.{Return}
-use Rattle.imports.specs.Linking.{IsLinked, ExportsFunction}
-use Rattle.imports.specs.Uv.{AreNamedApart}
 use Rattle.order.specs.ImportTypes.{import_types}
-use Rattle.order.specs.Work.{WorkRun, StartRun, EndsAs, Computes, Uses, stops, works}
-use Rattle.order.specs.Stopping.{WorkStop}
 use Rattle.order.proofs.ImportTypes.{names}
 use Rattle.order.proofs.OneEnd.{one_end}
 

@@ -1,14 +1,8 @@
 -- The asyncs that are active, found from the front.
-use Rattle.std.proofs.Common.{◌≡◌, ℕ, ◌+◌, ◌<◌, ◌≤◌, None, Bool, true, false, cond, List, [], ◌∷◌, ◌++◌, length, map, take, get_or, Option, refl, sym, ap, ◌∙◌}
-use Rattle.std.proofs.Common.{not, ◌||◌, append_assoc, append-nil, arith}
-use Rattle.std.proofs.lemmas.List.{take_more, take_all}
-use Rattle.std.proofs.lemmas.Option.{get_or_from_slice_get, slice_get-get_or}
+use Rattle.phases.proofs.Words.{active_from, ap, append-nil, append_assoc, arith, Async, Bool, cond, eqb-suc-zero, false, get_or, get_or_from_slice_get}
+use Rattle.phases.proofs.Words.{is_active_handle, is_empty, length, List, list_any, map, None, not, Option, refl, slice_get-get_or, sym, Table, take, take_all}
+use Rattle.phases.proofs.Words.{take_more, true, ℕ, [], ◌++◌, ◌+◌, ◌<◌, ◌||◌, ◌∙◌, ◌∷◌, ◌≡◌, ◌≤◌}
 use Rattle.phases.proofs.FrontSearches.{any_here}
-use Rattle.std.specs.List.{list_any}
-use Rattle.std.proofs.Math.Dec.{eqb-suc-zero}
-use Rattle.handles.specs.Table.{Table}
-use Rattle.phases.specs.declared.entry.Entry.TheVariants.{Async}
-use Rattle.phases.specs.PhaseList.{active_from, is_active_handle, is_empty}
 
 active_push : (t : Table) (n m : ℕ) (xs : List (Option ℕ)) (x : Option ℕ) → m ≡ n + length xs
     → active_from t n (xs ++ x ∷ []) ≡ active_from t n xs ++ cond (is_active_handle t x) (m ∷ []) []

@@ -1,26 +1,19 @@
 -- A loop is alive exactly where a handle is active, a request is outstanding or a handle is closing.
-use Rattle.std.proofs.Common.{◌≡◌, ◌≢◌, ◌↔◌, ℕ, suc, ◌+◌, ◌-◌, ◌<◌, ◌≤◌, Bool, true, false, cond, not, ◌&&◌, ◌||◌, inl, inr, List, [], ◌∷◌, ◌++◌, length}
-use Rattle.std.proofs.Common.{map, Option, Some, None, is_some, Contains, All, refl, sym, ap, subst, ◌∙◌, arith, eqb-true, IsTrue}
-use Rattle.std.specs.List.{list_any, slice_get}
-use Rattle.std.specs.Option.{option_map, option_map_or, option_and_then}
-use Rattle.std.specs.Prelude.{nat_le}
-use Rattle.std.proofs.lemmas.Bool.{and_parts, or_cases, or_left, or_right, ne_eqb, leb-true, leb-false}
+use Rattle.phases.proofs.Words.{active_asyncs, active_from, All, ap, arith, Bool, cond, Contains, entry, eqb-true, false, inl, inr, is_active_handle, is_empty}
+use Rattle.phases.proofs.Words.{is_handle, is_some, Kind, length, List, list_any, map, nat_le, ne_eqb, None, not, Option, option_and_then, option_map}
+use Rattle.phases.proofs.Words.{option_map_or, or_right, Record, record_of, refl, Roster, RosterIsKept, same_kind, settled, slice_get, Some, State, subst, suc}
+use Rattle.phases.proofs.Words.{sym, Table, true, ℕ, [], ◌&&◌, ◌++◌, ◌+◌, ◌-◌, ◌<◌, ◌||◌, ◌∙◌, ◌∷◌, ◌≡◌, ◌≢◌, ◌≤◌}
+use Rattle.std.proofs.Common.{◌↔◌, IsTrue}
+use Rattle.std.proofs.lemmas.Bool.{and_parts, or_cases, or_left, leb-true, leb-false}
 use Rattle.std.proofs.lemmas.List.Elements.{All-contains}
 use Rattle.std.proofs.lemmas.Option.{cond_some}
 use Rattle.events.specs.declared.did.Hint.TheVariants.{Now, For}
-use Rattle.phases.specs.Requests.{settled}
-use Rattle.handles.specs.declared.handle.Kind.{Kind}
 use Rattle.handles.specs.declared.handle.Kind.TheVariants.{Timer, Idle, Check, Async}
-use Rattle.handles.specs.declared.handle.Record.{Record}
 use Rattle.handles.specs.declared.sorted.ListPlace.{ListPlace}
-use Rattle.handles.specs.Table.{Table, record_of, same_kind, place_of, place_in, in_order, entry, kind_list, nearest_due, listed}
+use Rattle.handles.specs.Table.{place_of, place_in, in_order, kind_list, nearest_due, listed}
 use Rattle.handles.proofs.Dues.{first_is_least}
 use Rattle.handles.proofs.Laws.{in_order-place, place-in_order}
-use Rattle.phases.specs.Fitting.{RosterIsKept}
-use Rattle.phases.specs.PhaseList.{is_empty, is_active_handle, active_from, active_asyncs, has_active, is_alive, HasActive, IsAlive, IsActive, HasActiveOf}
-use Rattle.phases.specs.PhaseList.{IsNextDue, IsAtOnce, IsHint, until_due, hint_of}
-use Rattle.phases.specs.Roster.{Roster, is_handle}
-use Rattle.phases.specs.State.{State}
+use Rattle.phases.specs.PhaseList.{has_active, is_alive, HasActive, IsAlive, IsActive, HasActiveOf, IsNextDue, IsAtOnce, IsHint, until_due, hint_of}
 
 filled : {X : Type 0} (xs : List X) → not (is_empty xs) ≡ true → xs ≢ []
 filled [] h = absurd (cc)

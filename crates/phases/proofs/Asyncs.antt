@@ -1,27 +1,11 @@
 -- A loop makes MAX_ASYNCS asyncs at most.
-use Rattle.std.proofs.Common.{◌≡◌, ℕ, zero, suc, ◌<◌, ◌≤◌, Bool, true, false, List, [], ◌∷◌, length, Option, Some, None, refl, sym}
-use Rattle.std.proofs.Common.{ap, subst, ◌∙◌, arith, slice_get}
+use Rattle.phases.proofs.Words.{ap, arith, async_handle, begun, Bool, Calls, CancelAnswered, CancelIn, ClockRaised, EndOffered, Entry, EntryKind, Event}
+use Rattle.phases.proofs.Words.{EventStep, Failed, false, GuestCall, I32, in_state, in_table, length, List, Loop, MAX_ASYNCS, MovedBeside, next_in, None}
+use Rattle.phases.proofs.Words.{Offers, Option, OrderAsked, Over, over, refl, RequestAnswered, RequestIn, Running, RunsFrom, Setting, slice_get, Some, State}
+use Rattle.phases.proofs.Words.{Status, StepDid, Stepped, subst, suc, sym, true, unless_handle, Value, with_requests, without_request, WorkEnd, WorkOrder, zero}
+use Rattle.phases.proofs.Words.{ℕ, [], ◌<◌, ◌∙◌, ◌∷◌, ◌≡◌, ◌≤◌}
 use Rattle.std.proofs.lemmas.List.{length-map}
-use Rattle.limits.specs.declared.TheConstants.{MAX_ASYNCS}
-use Rattle.syntax.specs.declared.types.Value.{Value}
-use Rattle.syntax.specs.declared.types.Value.TheVariants.{I32}
-use Rattle.order.specs.Work.{WorkOrder, WorkEnd}
-use Rattle.events.specs.declared.did.StepDid.{StepDid}
-use Rattle.events.specs.declared.phase.EntryKind.{EntryKind}
 use Rattle.events.specs.declared.phase.EntryKind.TheVariants as kind
-use Rattle.phases.specs.declared.entry.Entry.{Entry}
-use Rattle.phases.specs.declared.entry.Status.{Status}
-use Rattle.phases.specs.declared.entry.Status.TheVariants.{Running, Over, Failed}
-use Rattle.phases.specs.Roster.{in_table, async_handle, unless_handle}
-use Rattle.phases.specs.Requests.{without_request}
-use Rattle.phases.specs.State.{Setting, State, Loop}
-use Rattle.phases.specs.Calls.{Calls}
-use Rattle.phases.specs.Guests.{GuestCall}
-use Rattle.phases.specs.Host.{with_requests}
-use Rattle.phases.specs.History.{Event, Stepped, OrderAsked, EndOffered, CancelAnswered, RequestAnswered, ClockRaised, MovedBeside, EventStep, Offers}
-use Rattle.phases.specs.Outside.{CancelIn, RequestIn, next_in}
-use Rattle.phases.specs.Step.{RunsFrom, in_state, over}
-use Rattle.phases.specs.Step.{begun}
 use Rattle.phases.proofs.GuestCallsKeepListed.{guest_grows}
 use Rattle.phases.proofs.StepGoes.{EntryGoes, skips, runs, works, StepGoes, rests, enters, Prepares, as_it_is, starts_timer, removes_handle, step_goes}
 

@@ -1,29 +1,18 @@
 -- What one call of a guest makes of its loop and of the shared object, and that it can be made again at another object.
-use Rattle.std.proofs.Common.{◌≡◌, ℕ, ◌+◌, ◌<◌, ◌≤◌, ◌==◌, Bool, true, false, cond, not, ◌&&◌, inl, inr, ◌⊎◌, List, [], ◌∷◌, ◌++◌, length, Some, refl, sym, ap, subst, ◌∙◌, arith, MatchBool}
-use Rattle.std.specs.Prelude.{nat_le, nat_lt, codes}
-use Rattle.std.proofs.lemmas.Bool.{ne_eqb}
-use Rattle.limits.specs.declared.TheConstants.{MAX_BYTES, MAX_EMITS, MAX_REQUESTS, MAX_REQUEST_NUMBER}
-use Rattle.syntax.specs.declared.types.Value.{Value}
-use Rattle.syntax.specs.declared.types.Value.TheVariants.{I32, I64}
-use Rattle.handles.specs.declared.handle.Kind.{Kind}
+use Rattle.phases.proofs.Words.{ap, arith, asks_for, Bool, Call, Calls, CallStep, Cancel, Cancelled, CancelState, codes, cond, exports, false, GuestCall}
+use Rattle.phases.proofs.Words.{HostCall, I32, inl, inr, INVALID, is_number, is_queue_work, IsCancel, Kind, length, List, MatchBool, MAX_BYTES}
+use Rattle.phases.proofs.Words.{MAX_REQUEST_NUMBER, MAX_REQUESTS, nat_le, nat_lt, ne_eqb, next_work, NONE_LEFT, not, Pending, QueuesWork, QueueWork, refl}
+use Rattle.phases.proofs.Words.{Request, request_of, Requests, Roster, Setting, Some, State, subst, sym, taken_out, true, Unknown, Value, with_made}
+use Rattle.phases.proofs.Words.{with_requests, with_roster, with_stage, with_work, ℕ, [], ◌&&◌, ◌++◌, ◌+◌, ◌<◌, ◌==◌, ◌∙◌, ◌∷◌, ◌≡◌, ◌≤◌, ◌⊎◌}
+use Rattle.limits.specs.declared.TheConstants.{MAX_EMITS}
+use Rattle.syntax.specs.declared.types.Value.TheVariants.{I64}
 use Rattle.handles.specs.declared.handle.Kind.TheVariants as kind
-use Rattle.reduction.specs.Run.{HostCall}
-use Rattle.imports.specs.declared.call.Call.{Call}
 use Rattle.imports.specs.declared.call.Call.TheVariants.{Now, TimerInit, IdleInit, CheckInit, TimerStart, TimerStop, IdleStop, CheckStop, TimerAgain, IdleStart}
-use Rattle.imports.specs.declared.call.Call.TheVariants.{CheckStart, AsyncInit, AsyncSend, IsActive, Close, QueueWork, Cancel, InLen, InCopy, OutSet, Emit}
-use Rattle.order.specs.declared.uv.answers.TheConstants.{NO_SUCH_EXPORT, INVALID, NO_ROOM, NONE_LEFT, NO_MEMORY, OUTSIDE_MEMORY}
-use Rattle.order.specs.Uv.Bytes.{taken_out}
-use Rattle.phases.specs.declared.stage.CancelState.{CancelState}
-use Rattle.phases.specs.declared.stage.CancelState.TheVariants.{Unknown, Pending}
+use Rattle.imports.specs.declared.call.Call.TheVariants.{CheckStart, AsyncInit, AsyncSend, IsActive, Close, InLen, InCopy, OutSet, Emit}
+use Rattle.order.specs.declared.uv.answers.TheConstants.{NO_SUCH_EXPORT, NO_ROOM, NO_MEMORY, OUTSIDE_MEMORY}
 use Rattle.phases.specs.declared.stage.CancelState.TheVariants as cancel_state
-use Rattle.phases.specs.PhaseList.{exports}
-use Rattle.phases.specs.Requests.{Cancelled, Request, Requests, request_of, with_stage, with_work}
-use Rattle.phases.specs.Roster.{Roster, is_open_of, async_number, with_made, Makes, MakesAsync, stopped_in, started_in, again_in, closed_in}
-use Rattle.phases.specs.State.{Setting, State}
-use Rattle.phases.specs.Calls.{Calls}
-use Rattle.phases.specs.Guests.{GuestCall}
-use Rattle.phases.specs.Host.{CallStep, CancelsFrom, QueuesWork, Opens, OpensIfRoom, cancel_state_of, next_work, emitted_in, with_roster, with_requests}
-use Rattle.phases.specs.Laws.{asks_for, is_queue_work, is_number, IsCancel}
+use Rattle.phases.specs.Roster.{is_open_of, async_number, Makes, MakesAsync, stopped_in, started_in, again_in, closed_in}
+use Rattle.phases.specs.Host.{CancelsFrom, Opens, OpensIfRoom, cancel_state_of, emitted_in}
 use Rattle.phases.proofs.CancelFates.{IsBeside, unmoved, sent, CancelMoves, wins, leaves, moves_of}
 
 -- how a call moves the shared object, where it does

@@ -1,26 +1,9 @@
 -- A callback in slices is over.
-use Rattle.std.proofs.Common.{◌≡◌, ℕ, List, Option, IfSome, refl, ap}
-use Rattle.syntax.specs.Loaded.{Loaded}
-use Rattle.syntax.specs.declared.types.Value.{Value}
-use Rattle.instance.specs.Store.{Store}
-use Rattle.instance.specs.Stops.{Halt}
-use Rattle.instance.specs.Storing.{IsStoreOf}
-use Rattle.imports.specs.Linking.{IsLinked}
+use Rattle.phases.proofs.Words.{ap, begun, calling, Calls, Ended, EntryKind, finished, GuestCall, Halt, Host, IfSome, IsLinked, IsStoreOf, KeepsLoop, Leads}
+use Rattle.phases.proofs.Words.{List, Loaded, Loop, LoopStopsAt, moves, Option, Ran, refl, RunsFrom, scene, Setting, setting_of, State, Store, Value, ℕ, ◌≡◌}
 use Rattle.events.specs.Bare.{whole, whole_ending}
-use Rattle.events.specs.declared.did.StepDid.TheVariants.{Ran}
 use Rattle.events.specs.declared.ended.BareEnding.{BareEnding}
-use Rattle.events.specs.declared.ended.Ended.{Ended}
 use Rattle.events.specs.declared.ended.Ending.{Ending}
-use Rattle.events.specs.declared.phase.EntryKind.{EntryKind}
-use Rattle.reduction.specs.Leading.{Leads, calling, scene}
-use Rattle.phases.specs.Calls.{Calls}
-use Rattle.phases.specs.Guests.{GuestCall}
-use Rattle.phases.specs.Keeping.{KeepsLoop}
-use Rattle.phases.specs.Settings.{setting_of}
-use Rattle.phases.specs.State.{Setting, State, Loop}
-use Rattle.phases.specs.Step.{RunsFrom, begun, finished}
-use Rattle.phases.specs.Stopping.{LoopStopsAt}
-use Rattle.phases.specs.Underway.{Host, moves}
 use Rattle.phases.proofs.LoopsKeep.{same_setting, runs_from, kept_after}
 use Rattle.phases.proofs.StopsOfCallbacks.{stops_at}
 

@@ -1,18 +1,11 @@
 -- How a cancel of a request goes, a guest's or the owner's.
-use Rattle.std.proofs.Common.{◌≡◌, ◌≢◌, ℕ, ◌==◌, Bool, true, false, cond, Option, Some, None, refl, sym, ap, ◌∙◌, ℤ, negsuc}
+use Rattle.phases.proofs.Words.{ap, Bool, BUSY, Calls, CancelIn, Cancelled, CancelState, cond, Failed, false, INVALID, None, NOT_HERE, Option, Over, Pending}
+use Rattle.phases.proofs.Words.{refl, Request, request_of, Requests, Running, Some, State, Status, sym, true, Unknown, with_stage, ℕ, ◌==◌, ◌∙◌, ◌≡◌, ◌≢◌}
+use Rattle.std.proofs.Common.{ℤ, negsuc}
 use Rattle.std.specs.Prelude.{pos}
 use Rattle.std.specs.Int.{w32, cast_signed}
-use Rattle.order.specs.declared.uv.answers.TheConstants.{NOT_HERE, BUSY, INVALID}
-use Rattle.phases.specs.declared.entry.Status.{Status}
-use Rattle.phases.specs.declared.entry.Status.TheVariants.{Running, Over, Failed}
-use Rattle.phases.specs.declared.stage.CancelState.{CancelState}
-use Rattle.phases.specs.declared.stage.CancelState.TheVariants.{Unknown, Pending}
 use Rattle.phases.specs.declared.stage.CancelState.TheVariants as cancel_state
-use Rattle.phases.specs.Requests.{Cancelled, Request, Requests, request_of, with_stage}
-use Rattle.phases.specs.State.{State}
-use Rattle.phases.specs.Calls.{Calls}
 use Rattle.phases.specs.Host.{Cancels, CancelsFrom, cancel_state_of, request_cancel_state}
-use Rattle.phases.specs.Outside.{CancelIn}
 use Rattle.phases.proofs.FoundCancels.{in_slot}
 
 -- an answer other than 0, read as unsigned and as signed

@@ -1,15 +1,7 @@
 -- A guest is answered each number of a request once.
-use Rattle.std.proofs.Common.{◌≡◌, ◌≢◌, ℕ, ◌+◌, ◌<◌, ◌≤◌, ◌==◌, false, cond, ◌&&◌, inl, inr, ◌⊎◌, List, [], ◌∷◌, ◌++◌, refl, ap, ◌∙◌, arith}
-use Rattle.std.specs.List.{count_by}
-use Rattle.std.proofs.lemmas.Bool.{cases_eq, eq-eqb, ne_eqb}
-use Rattle.std.proofs.lemmas.List.Sums.{sum_by_push}
-use Rattle.limits.specs.declared.TheConstants.{MAX_REQUEST_NUMBER}
-use Rattle.phases.specs.Calls.{Calls}
-use Rattle.phases.specs.Guests.{GuestCall}
-use Rattle.phases.specs.History.{Event, History, IsOpening, guest_calls}
-use Rattle.phases.specs.Laws.{asks_for, is_number, is_queue_work}
-use Rattle.phases.specs.Requests.{Requests, no_requests}
-use Rattle.phases.specs.State.{Setting, Loop}
+use Rattle.phases.proofs.Words.{ap, arith, asks_for, Calls, cases_eq, cond, count_by, eq-eqb, Event, false, guest_calls, GuestCall, History, inl, inr}
+use Rattle.phases.proofs.Words.{is_number, is_queue_work, IsOpening, List, Loop, MAX_REQUEST_NUMBER, ne_eqb, no_requests, refl, Requests, Setting, sum_by_push}
+use Rattle.phases.proofs.Words.{ℕ, [], ◌&&◌, ◌++◌, ◌+◌, ◌<◌, ◌==◌, ◌∙◌, ◌∷◌, ◌≡◌, ◌≢◌, ◌≤◌, ◌⊎◌}
 use Rattle.phases.proofs.StepsByCalls.{CallFate, changes_nothing, opens_one, cancels_one, IsKeptBy, history_keeps}
 
 -- each number at most once, and none that is not given yet

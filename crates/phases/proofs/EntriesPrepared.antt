@@ -1,27 +1,15 @@
 -- What an entry of a list comes to before its callback runs.
-use Rattle.std.proofs.Common.{◌≡◌, ℕ, true, false, MatchBool, MatchOption, List, [], ◌∷◌, Option, Some, None, codes, refl}
-use Rattle.syntax.specs.declared.types.Value.TheVariants.{I32}
-use Rattle.handles.specs.declared.handle.Kind.{Kind}
+use Rattle.phases.proofs.Words.{after_again, AfterWork, async_handle, Calls, CallsHandle, codes, Completion, completion_of, EntryKind, EntryStep}
+use Rattle.phases.proofs.Words.{ExportsFunction, false, GuestCall, handle_function, I32, in_state, is_active_handle, is_as_listed, Kind, List, Loop, MatchBool}
+use Rattle.phases.proofs.Words.{MatchOption, None, Option, Prepares, refl, request_of, Roster, RunsFrom, Setting, sharing, Skips, Some, State, StepDid}
+use Rattle.phases.proofs.Words.{TakesFirst, true, with_handles, with_requests, with_roster, without_handle, without_request, ℕ, [], ◌∷◌, ◌≡◌}
 use Rattle.handles.specs.declared.handle.Kind.TheVariants as handle_kind
-use Rattle.handles.specs.Table.{after_again}
-use Rattle.imports.specs.Linking.{ExportsFunction}
-use Rattle.events.specs.declared.did.StepDid.{StepDid}
 use Rattle.events.specs.declared.did.StepDid.TheVariants as step
-use Rattle.events.specs.declared.phase.EntryKind.{EntryKind}
 use Rattle.events.specs.declared.phase.EntryKind.TheVariants as kind
 use Rattle.phases.specs.declared.callback.Prepared.{Prepared}
 use Rattle.phases.specs.declared.callback.Prepared.TheVariants.{Did}
 use Rattle.phases.specs.declared.did.BareDid.TheVariants.{Skipped}
 use Rattle.phases.specs.declared.entry.Entry.TheVariants as entry
-use Rattle.phases.specs.Calls.{Calls}
-use Rattle.phases.specs.Guests.{GuestCall}
-use Rattle.phases.specs.Host.{with_roster, with_requests}
-use Rattle.phases.specs.Inner.Preparing.{Prepares}
-use Rattle.phases.specs.PhaseList.{is_active_handle}
-use Rattle.phases.specs.Requests.{Completion, request_of, without_request, completion_of}
-use Rattle.phases.specs.Roster.{Roster, async_handle, with_handles, without_handle}
-use Rattle.phases.specs.State.{Setting, State, Loop}
-use Rattle.phases.specs.Step.{RunsFrom, CallsHandle, Skips, TakesFirst, AfterWork, EntryStep, handle_function, in_state, is_as_listed, sharing}
 use Rattle.phases.proofs.LoopsKeep.{called, told_of, active_step, none_taken, some_taken}
 use Rattle.phases.proofs.Prepared.{unread, prepares, prepares_did, when, unless}
 

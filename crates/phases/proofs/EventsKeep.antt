@@ -1,11 +1,6 @@
 -- What each event of a loop keeps, its histories keep.
-use Rattle.std.proofs.Common.{◌≡◌, ◌+◌, Bool, true, false, cond, List, [], ◌∷◌, ◌++◌, refl, ◌∙◌, arith}
-use Rattle.std.specs.List.{count_by}
-use Rattle.std.proofs.lemmas.List.Sums.{sum_by_push}
-use Rattle.phases.specs.Calls.{Calls}
-use Rattle.phases.specs.History.{Event, EventStep, History}
-use Rattle.phases.specs.State.{Setting, Loop}
-use Rattle.reduction.proofs.StepByStep.{steps_keep}
+use Rattle.phases.proofs.Words.{arith, Bool, Calls, cond, count_by, Event, EventStep, false, History, List, Loop, refl, Setting, steps_keep, sum_by_push, true}
+use Rattle.phases.proofs.Words.{[], ◌++◌, ◌+◌, ◌∙◌, ◌∷◌, ◌≡◌}
 
 -- how many events of a kind there are with one more
 module _ (counts : Event → Bool) (events : List Event) (e : Event) where

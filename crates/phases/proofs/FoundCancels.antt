@@ -1,9 +1,5 @@
 -- A cancel of a request that was found, by whether it can be cancelled.
-use Rattle.std.proofs.Common.{◌≡◌, ℕ, Some, ap, ◌∙◌}
-use Rattle.phases.specs.declared.stage.CancelState.{CancelState}
-use Rattle.phases.specs.declared.stage.CancelState.TheVariants.{Pending}
-use Rattle.phases.specs.Requests.{Stage, Open, HandedOut, Answered, Cancelled, Request, Requests, request_of}
-use Rattle.phases.specs.Calls.{Calls}
+use Rattle.phases.proofs.Words.{Answered, ap, Calls, Cancelled, CancelState, HandedOut, Open, Pending, Request, request_of, Requests, Some, Stage, ℕ, ◌∙◌, ◌≡◌}
 use Rattle.phases.specs.Host.{Cancels, CancelsFrom, request_cancel_state, stage_cancel_state}
 
 -- a request that can be cancelled is told with its slot

@@ -1,10 +1,8 @@
 -- Searches from the front of a list.
-use Rattle.std.proofs.Common.{◌≡◌, ℕ, suc, ◌+◌, ◌<◌, ◌||◌, Bool, true, false, List, [], ◌∷◌, ◌++◌, length, take, drop, get_or, Some, None, sym, ap, ◌∙◌, drop-cons}
-use Rattle.std.specs.List.{find, list_any, slice_get}
-use Rattle.std.specs.Option.{option_or}
-use Rattle.std.proofs.lemmas.List.{take-append-drop, take_more}
-use Rattle.std.proofs.lemmas.List.Folds.{find-append, list_any-append}
-use Rattle.std.proofs.lemmas.Option.{slice_get-get_or}
+use Rattle.phases.proofs.Words.{ap, Bool, drop, false, find, find-append, get_or, length, List, list_any, list_any-append, None, option_or, slice_get}
+use Rattle.phases.proofs.Words.{slice_get-get_or, Some, suc, sym, take, take_more, true, ℕ, [], ◌++◌, ◌+◌, ◌<◌, ◌||◌, ◌∙◌, ◌∷◌, ◌≡◌}
+use Rattle.std.proofs.Common.{drop-cons}
+use Rattle.std.proofs.lemmas.List.{take-append-drop}
 
 module _ {X : Type 0} (p : X → Bool) where
   -- the list, cut before an element

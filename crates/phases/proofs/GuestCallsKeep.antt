@@ -1,19 +1,13 @@
 -- What the calls of a guest keep, and what they are over a whole run.
-use Rattle.std.proofs.Common.{◌≡◌, ℕ, ◌+◌, ◌<◌, ◌≤◌, Bool, true, false, cond, List, [], ◌∷◌, ◌++◌, map, Some, refl, ap, subst, ◌∙◌, arith}
+use Rattle.phases.proofs.Words.{ap, AreOpenedUpTo, arith, Bool, Call, Calls, CallStep, cond, false, GuestCall, GuestSteps, HostCall, HostStep, IsLawful, Lawful}
+use Rattle.phases.proofs.Words.{List, map, refl, Requests, Setting, Some, State, steps_map, subst, true, Value, View, with_stage, ℕ, [], ◌++◌, ◌+◌, ◌<◌, ◌∙◌}
+use Rattle.phases.proofs.Words.{◌∷◌, ◌≡◌, ◌≤◌}
 use Rattle.tallies.specs.Requests.{is_request, times}
 use Rattle.tallies.proofs.Requests.{same_parts, times_push}
-use Rattle.syntax.specs.declared.types.Value.{Value}
 use Rattle.validate.specs.Typing.{type_of}
-use Rattle.reduction.specs.Run.{HostCall}
-use Rattle.reduction.specs.Hosting.{Lawful}
-use Rattle.reduction.proofs.StepByStep.{steps_map}
-use Rattle.imports.specs.declared.call.Call.{Call}
-use Rattle.phases.specs.View.{View, AreOpenedUpTo, Opened, Cancelled, Sent}
-use Rattle.phases.specs.Calls.{Calls, IsLawful}
-use Rattle.phases.specs.Requests.{Requests, Cancelled as cancelled, with_stage}
-use Rattle.phases.specs.State.{Setting, State}
-use Rattle.phases.specs.Guests.{GuestCall, GuestSteps, trace_of}
-use Rattle.phases.specs.Host.{HostStep, CallStep}
+use Rattle.phases.specs.View.{Opened, Cancelled, Sent}
+use Rattle.phases.specs.Requests.{Cancelled as cancelled}
+use Rattle.phases.specs.Guests.{trace_of}
 use Rattle.phases.specs.Hosting.{Answered, Replies}
 use Rattle.phases.proofs.CallMoves.{CallMoves, leaves_all, opens, cancels_won, call_moves}
 use Rattle.phases.proofs.CancelFates.{IsBeside, unmoved, tried, sent, took, CancelMoves, wins, leaves}

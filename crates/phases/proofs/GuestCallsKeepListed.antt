@@ -1,32 +1,17 @@
 -- No call of a guest takes away what a loop has listed.
-use Rattle.std.proofs.Common.{◌≡◌, ℕ, zero, suc, ◌+◌, ◌≤◌, ◌==◌, Bool, true, false, cond, not, ◌&&◌, List, [], ◌∷◌, ◌++◌, length, map, find}
-use Rattle.std.proofs.Common.{Option, Some, None, refl, sym, ap, subst, ◌∙◌, arith, MatchBool, MatchOption, IsSomeAnd, slice_get}
-use Rattle.std.specs.Option.{option_map_or, option_or}
+use Rattle.phases.proofs.Words.{after_again, ap, arith, async_handle, Bool, Call, Calls, CallStep, Cancelled, cond, false, find, find-append, Grows, GuestCall}
+use Rattle.phases.proofs.Words.{GuestStep, GuestSteps, has_number, HostCall, HostStep, in_stage, in_table, INVALID, is_callback, is_settled, IsClosing}
+use Rattle.phases.proofs.Words.{IsSettledIn, IsSomeAnd, Kind, Lawful, length, List, map, MatchBool, MatchOption, MAX_ASYNCS, MAX_HANDLES, next_work, None}
+use Rattle.phases.proofs.Words.{NONE_LEFT, not, Open, Option, option_map_or, option_or, Record, record_of, refl, Request, Requests, Roster, same_kind, Setting}
+use Rattle.phases.proofs.Words.{slice_get, Some, Stage, State, steps_keep, subst, suc, sym, Table, taken_out, true, with_async, with_handles, with_made}
+use Rattle.phases.proofs.Words.{with_requests, with_roster, with_stage, with_work, WorkOrder, zero, ℕ, [], ◌&&◌, ◌++◌, ◌+◌, ◌==◌, ◌∙◌, ◌∷◌, ◌≡◌, ◌≤◌}
 use Rattle.std.specs.FinMap as finite
 use Rattle.std.proofs.lemmas.Bool.{eqb-false}
 use Rattle.std.proofs.lemmas.List.{length_push}
-use Rattle.std.proofs.lemmas.List.Folds.{find-append}
-use Rattle.limits.specs.declared.TheConstants.{MAX_HANDLES, MAX_ASYNCS}
-use Rattle.handles.specs.declared.handle.Record.{Record}
-use Rattle.handles.specs.declared.handle.Kind.{Kind}
 use Rattle.handles.specs.declared.handle.Kind.TheVariants as kind
-use Rattle.handles.specs.Table.{Table, record_of, IsClosing, new_record, with_record, with_started, saturated, stopped, closed, same_kind, was_started}
-use Rattle.handles.specs.Table.{after_start, after_stop, after_again, after_close}
-use Rattle.reduction.specs.Run.{HostCall}
-use Rattle.reduction.specs.Hosting.{Lawful}
-use Rattle.reduction.proofs.StepByStep.{steps_keep}
-use Rattle.imports.specs.declared.call.Call.{Call}
-use Rattle.order.specs.declared.uv.answers.TheConstants.{INVALID, NONE_LEFT}
-use Rattle.order.specs.Uv.Bytes.{taken_out}
-use Rattle.order.specs.Work.{WorkOrder}
+use Rattle.handles.specs.Table.{new_record, with_record, with_started, saturated, stopped, closed, was_started, after_start, after_stop, after_close}
 use Rattle.tallies.proofs.Requests.{either}
-use Rattle.phases.specs.Requests.{Requests, Request, Stage, Open, Cancelled, has_number, in_stage, with_stage, with_work, is_settled}
-use Rattle.phases.specs.Roster.{Roster, in_table, async_handle, is_open, is_open_of, is_callback, with_handles, with_made, with_async, Makes, MakesAsync, stopped_in, started_in, again_in, closed_in}
-use Rattle.phases.specs.State.{Setting, State}
-use Rattle.phases.specs.Calls.{Calls}
-use Rattle.phases.specs.Guests.{GuestCall, GuestStep, GuestSteps}
-use Rattle.phases.specs.Host.{with_roster, with_requests, next_work, CallStep, HostStep}
-use Rattle.phases.specs.Ready.{IsSettledIn, Grows}
+use Rattle.phases.specs.Roster.{is_open, is_open_of, Makes, MakesAsync, stopped_in, started_in, again_in, closed_in}
 use Rattle.phases.proofs.CallMoves.{RosterStep, stays, makes, makes_async, stops, starts, starts_again, closes, CallMoves, leaves_all, opens, cancels_won, call_moves, call_rest}
 use Rattle.phases.proofs.RosterKeeps.{choose, changed, still_closing, closing_there}
 

@@ -1,24 +1,14 @@
 -- What the histories of a loop keep.
-use Rattle.std.proofs.Common.{◌≡◌, ◌≢◌, ℕ, ◌+◌, ◌<◌, ◌≤◌, Bool, true, false, inl, inr, ◌⊎◌, List, [], ◌∷◌, ◌++◌, Option, Some, None, refl, sym, ap, subst, ◌∙◌, arith, append_assoc, append-nil}
-use Rattle.std.specs.List.{Contains, count_by}
-use Rattle.std.proofs.lemmas.Bool.{cases_lt, eqb-true}
+use Rattle.phases.proofs.Words.{AfterWork, Answered, ap, append-nil, append_assoc, arith, Bool, Calls, calls_in, CancelAnswered, cancellation, Cancelled}
+use Rattle.phases.proofs.Words.{cases_lt, ClockRaised, Completion, completion_of, Contains, count_by, end_completion, EndOffered, Entry, eqb-true, Event}
+use Rattle.phases.proofs.Words.{EventStep, Failed, false, guest_calls, GuestCall, HandedOut, handing, History, in_state, inl, inr, IsOpening, List, Loop}
+use Rattle.phases.proofs.Words.{lowest_open, MovedBeside, next_in, next_order_of, no_requests, None, Offers, Open, Option, OrderAsked, Over, owners_call, Ran}
+use Rattle.phases.proofs.Words.{refl, Request, request_of, RequestAnswered, Requests, Running, Setting, Some, Stage, State, Status, StepDid, Stepped, subst}
+use Rattle.phases.proofs.Words.{sym, true, WasAsked, with_stage, WorkEnd, WorkOrder, ℕ, [], ◌++◌, ◌+◌, ◌<◌, ◌∙◌, ◌∷◌, ◌≡◌, ◌≢◌, ◌≤◌, ◌⊎◌}
 use Rattle.std.proofs.lemmas.List.Elements.{Contains-append_left, Contains-push, Contains-push_cases}
-use Rattle.order.specs.Work.{WorkOrder, WorkEnd}
-use Rattle.events.specs.declared.did.StepDid.{StepDid}
-use Rattle.events.specs.declared.did.StepDid.TheVariants.{Ran}
-use Rattle.phases.specs.declared.entry.Entry.{Entry}
 use Rattle.phases.specs.declared.entry.Entry.TheVariants as entry
 use Rattle.events.specs.declared.phase.EntryKind.TheVariants as kind
-use Rattle.phases.specs.declared.entry.Status.{Status}
-use Rattle.phases.specs.declared.entry.Status.TheVariants.{Running, Over, Failed}
-use Rattle.phases.specs.Calls.{Calls}
-use Rattle.phases.specs.Guests.{GuestCall}
-use Rattle.phases.specs.History.{Event, Stepped, OrderAsked, EndOffered, CancelAnswered, RequestAnswered, ClockRaised, MovedBeside, EventStep, Offers, History, IsOpening, owners_call, calls_in, guest_calls}
-use Rattle.phases.specs.Laws.{WasAsked, WasCancelled, is_after_event, AreDue, IsOwn}
-use Rattle.phases.specs.Outside.{next_order_of, next_in, handing}
-use Rattle.phases.specs.Requests.{Stage, Open, HandedOut, Answered, Cancelled, Request, Requests, Completion, cancellation, no_requests, request_of, with_stage, completion_of, end_completion, lowest_open}
-use Rattle.phases.specs.State.{Setting, State, Loop}
-use Rattle.phases.specs.Step.{AfterWork, in_state}
+use Rattle.phases.specs.Laws.{WasCancelled, is_after_event, AreDue, IsOwn}
 use Rattle.phases.proofs.EventsKeep.{counted, uncounted, Keeps, kept_by, kept_along}
 use Rattle.phases.proofs.CancelFates.{CancelFate, cancelled, stayed, fate_in}
 use Rattle.phases.proofs.StepFates.{Held, WasWon, Steps, step_holds, fate_holds, nothing_more}

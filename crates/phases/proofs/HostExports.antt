@@ -1,14 +1,7 @@
 -- Whether a module exports a function for the host.
-use Rattle.std.proofs.Common.{◌≡◌, ◌≢◌, ℕ, zero, suc, ◌||◌, Bool, true, false, List, [], ◌∷◌, Option, Some, None, refl, sym, MatchOption, is_some}
-use Rattle.std.specs.List.{list_any, slice_get}
-use Rattle.std.specs.Str.{bytes_eq}
-use Rattle.std.proofs.lemmas.Slice.Eq.{bytes_eq-Decides}
-use Rattle.std.proofs.lemmas.List.Elements.{All-weaker}
-use Rattle.std.proofs.lemmas.List.Folds.{list_any_none}
-use Rattle.syntax.specs.declared.contents.Contents.{Contents}
+use Rattle.phases.proofs.Words.{All-weaker, Bool, bytes_eq, bytes_eq-Decides, Contents, exports, ExportsFunction, ExportsNothing, false, is_some, List}
+use Rattle.phases.proofs.Words.{list_any, list_any_none, MatchOption, None, Option, refl, slice_get, Some, suc, sym, true, zero, ℕ, [], ◌||◌, ◌∷◌, ◌≡◌, ◌≢◌}
 use Rattle.syntax.specs.declared.contents.ModuleExport.{ModuleExport}
-use Rattle.imports.specs.Linking.{ExportsFunction, ExportsNothing}
-use Rattle.phases.specs.PhaseList.{exports}
 
 any_at : {X : Type 0} (p : X → Bool) (xs : List X) (at : ℕ) (x : X) → slice_get xs at ≡ Some x → p x ≡ true → list_any p xs ≡ true
 any_at p [] at x h passes = absurd (cc)

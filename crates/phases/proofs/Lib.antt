@@ -1,3 +1,4 @@
+pub mod Words
 pub mod EachNumberOnce
 pub mod Asyncs
 pub mod RequestsRise

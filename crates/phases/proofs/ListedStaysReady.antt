@@ -1,17 +1,9 @@
 -- What is listed stays ready as a loop grows, and as an entry is taken off the list and run.
-use Rattle.std.proofs.Common.{◌≡◌, ◌≢◌, ℕ, true, false, cond, not, inl, inr, List, [], ◌∷◌, filter, find, All, get_or, Option, Some, None, refl, sym, ap, subst}
-use Rattle.std.proofs.Common.{◌∙◌, suc, arith, eqb-true, ne_eqb}
-use Rattle.std.specs.Option.{is_some}
-use Rattle.std.proofs.lemmas.List.Elements.{All-weaker, All-head, All-tail}
-use Rattle.syntax.specs.declared.contents.Contents.{Contents}
-use Rattle.handles.specs.Table.{after_again}
-use Rattle.phases.specs.declared.entry.Entry.{Entry}
+use Rattle.phases.proofs.Words.{after_again, All, All-head, All-tail, All-weaker, ap, AreApart, AreReady, arith, async_handle, cond, Contents, Entry, eqb-true}
+use Rattle.phases.proofs.Words.{false, filter, find, get_or, Grows, has_number, inl, inr, is_some, IsReady, List, ne_eqb, None, not, Option, refl, Request}
+use Rattle.phases.proofs.Words.{Some, Spares, State, subst, suc, sym, true, with_handles, with_requests, with_roster, without_handle, without_request, ℕ, []}
+use Rattle.phases.proofs.Words.{◌∙◌, ◌∷◌, ◌≡◌, ◌≢◌}
 use Rattle.phases.specs.declared.entry.Entry.TheVariants as entry
-use Rattle.phases.specs.Requests.{Request, has_number, without_request}
-use Rattle.phases.specs.Roster.{async_handle, with_handles, without_handle}
-use Rattle.phases.specs.State.{State}
-use Rattle.phases.specs.Host.{with_roster, with_requests}
-use Rattle.phases.specs.Ready.{IsReady, Spares, AreApart, AreReady, Grows}
 use Rattle.phases.proofs.RosterKeeps.{gone_or_same}
 use Rattle.phases.proofs.GuestCallsKeepListed.{IsSettledOne, grows_roster, holds_handles, again_closing}
 

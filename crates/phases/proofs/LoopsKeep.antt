@@ -1,53 +1,23 @@
 -- What a loop keeps as a callback runs, and as entries are taken off its list.
-use Rattle.std.proofs.Common.{◌≡◌, ℕ, ◌≤◌, Bool, true, false, cond, not, ◌&&◌, List, [], ◌∷◌, drop, Option, Some, None, refl, sym, ap, subst, ◌∙◌, map}
-use Rattle.std.proofs.Common.{slice_get, codes, MatchOption, MatchBool, Result, Ok, Err, OnOk, IfErr, ◌==◌, ◌⊎◌, inl, inr, arith, IfSome}
-use Rattle.std.proofs.lemmas.Bool.{eqb-true}
-use Rattle.std.specs.Option.{option_map, option_map_or, option_and_then, is_some}
+use Rattle.phases.proofs.Words.{ap, AreOpenedUpTo, AreOrdersOf, AreReady, arith, begin_list, begun, Bool, callback_function, callback_in, callbacks_of, calling}
+use Rattle.phases.proofs.Words.{Calls, CancelIn, codes, Completion, completion_of, cond, Contents, drop, Ended, EntryKind, eqb-true, exports, ExportsFunction}
+use Rattle.phases.proofs.Words.{ExportsNothing, false, finished, first_list, Grows, GuestCall, Halt, handle_function, HasNoResults, HostStep, I32, IfSome}
+use Rattle.phases.proofs.Words.{import_types, in_table, inl, inr, is_alive, is_some, IsLawful, IsLinked, IsOrderOf, IsStoreOf, KeepsLoop, Lawful, Leads, List}
+use Rattle.phases.proofs.Words.{Loaded, Loop, map, MatchBool, MatchOption, MAX_DEPTH, may_end, Names, next_in, next_of, next_order_of, None, not, opening}
+use Rattle.phases.proofs.Words.{opening_roster, Option, option_and_then, option_map, option_map_or, Order, order_of, Over, Ran, Record, record_of, refl}
+use Rattle.phases.proofs.Words.{Request, Requests, Roster, Running, RunsFrom, scene, Setting, slice_get, Some, State, Status, Store, subst, sym, TakesArguments}
+use Rattle.phases.proofs.Words.{true, turn, ValidModule, ValType, Value, with_requests, ℕ, [], ◌&&◌, ◌==◌, ◌∙◌, ◌∷◌, ◌≡◌, ◌≤◌, ◌⊎◌}
+use Rattle.std.proofs.Common.{Result, Ok, Err, OnOk, IfErr}
 use Rattle.std.proofs.lemmas.Option.{slice_get-map}
-use Rattle.limits.specs.declared.TheConstants.{MAX_DEPTH}
-use Rattle.syntax.specs.Loaded.{Loaded}
-use Rattle.syntax.specs.declared.contents.Contents.{Contents}
 use Rattle.syntax.specs.declared.contents.FuncType.{FuncType}
-use Rattle.syntax.specs.declared.types.ValType.{ValType}
 use Rattle.syntax.specs.declared.types.ValType.TheVariants as valtype
-use Rattle.syntax.specs.declared.types.Value.{Value}
-use Rattle.syntax.specs.declared.types.Value.TheVariants.{I32}
-use Rattle.validate.specs.Typing.{type_of_function}
-use Rattle.validate.specs.Typing.{type_of, HasFunctionType}
-use Rattle.validate.specs.Valid.{ValidModule}
-use Rattle.handles.specs.Table.{record_of, empty_table}
-use Rattle.handles.specs.declared.handle.Record.{Record}
+use Rattle.validate.specs.Typing.{type_of_function, type_of, HasFunctionType}
+use Rattle.handles.specs.Table.{empty_table}
 use Rattle.instance.specs.Fresh.{fresh_store}
-use Rattle.instance.specs.Store.{Store}
-use Rattle.reduction.specs.Hosting.{Lawful, Names}
-use Rattle.reduction.specs.Invoking.{TakesArguments, HasNoResults}
-use Rattle.reduction.specs.Leading.{Leads, calling, scene}
-use Rattle.instance.specs.Stops.{Halt}
-use Rattle.instance.specs.Storing.{IsStoreOf}
-use Rattle.events.specs.declared.ended.Ended.{Ended}
-use Rattle.imports.specs.Linking.{IsLinked, ExportsFunction, ExportsNothing}
-use Rattle.order.specs.ImportTypes.{import_types}
-use Rattle.order.specs.Orders.{order_of}
-use Rattle.order.specs.declared.order.Order.{Order}
 use Rattle.order.proofs.FunctionTypes.{has_type}
-use Rattle.events.specs.declared.did.StepDid.TheVariants.{Ran}
-use Rattle.events.specs.declared.phase.EntryKind.{EntryKind}
-use Rattle.phases.specs.declared.entry.Status.{Status}
-use Rattle.phases.specs.declared.entry.Status.TheVariants.{Running, Over}
-use Rattle.phases.specs.Calls.{Calls, IsLawful}
-use Rattle.phases.specs.Outside.{CancelIn, next_in, next_of, next_order_of}
-use Rattle.phases.specs.Requests.{Requests, Request, Completion, completion_of}
-use Rattle.phases.specs.View.{AreOpenedUpTo}
-use Rattle.phases.specs.Guests.{GuestCall}
-use Rattle.phases.specs.Host.{HostStep, Cancels, with_requests}
+use Rattle.phases.specs.Host.{Cancels}
 use Rattle.phases.specs.Hosting.{Answered}
-use Rattle.phases.specs.Keeping.{KeepsLoop, IsOrderOf, AreOrdersOf}
-use Rattle.events.specs.Phases.{may_end}
-use Rattle.phases.specs.PhaseList.{is_alive, exports, first_list, begin_list}
-use Rattle.phases.specs.Ready.{AreReady, Grows}
-use Rattle.phases.specs.Roster.{Roster, callback_in, callbacks_of, callback_function, in_table, takes_one_number, opening_roster}
-use Rattle.phases.specs.State.{Setting, State, Loop, opening}
-use Rattle.phases.specs.Step.{RunsFrom, begun, finished, turn, handle_function}
+use Rattle.phases.specs.Roster.{takes_one_number}
 use Rattle.phases.proofs.GuestCallsKeepListed.{grows_on, trace_grows}
 use Rattle.phases.proofs.PhaseListsAreReady.{ready_opening}
 use Rattle.phases.proofs.HostExports.{found_exports}

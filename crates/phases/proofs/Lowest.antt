@@ -1,13 +1,8 @@
 -- The lowest open request, in order of numbers that rise.
-use Rattle.std.proofs.Common.{◌≡◌, ℕ, zero, suc, ◌<◌, ◌≤◌, Bool, true, false, cond, List, [], ◌∷◌, map, Option, Some, None, refl, sym, ap, ◌∙◌, arith, get_or, IfSome}
-use Rattle.std.specs.List.{find, slice_get}
-use Rattle.std.specs.Option.{option_map}
-use Rattle.std.proofs.lemmas.Option.{slice_get-get_or}
-use Rattle.order.specs.declared.order.Order.{Order}
-use Rattle.order.specs.Orders.{order_of}
-use Rattle.phases.specs.Fitting.{AreRising, AreKept}
-use Rattle.phases.specs.Outside.{handing, next_of}
-use Rattle.phases.specs.Requests.{Request, Requests, is_open_stage, lowest_open, IsLowestOpen}
+use Rattle.phases.proofs.Words.{ap, AreKept, AreRising, arith, Bool, cond, false, find, get_or, handing, IfSome, is_open_stage, List, lowest_open, map, next_of}
+use Rattle.phases.proofs.Words.{None, Option, option_map, Order, order_of, refl, Request, Requests, slice_get, slice_get-get_or, Some, suc, sym, true, zero, ℕ}
+use Rattle.phases.proofs.Words.{[], ◌<◌, ◌∙◌, ◌∷◌, ◌≡◌, ◌≤◌}
+use Rattle.phases.specs.Requests.{IsLowestOpen}
 use Rattle.phases.proofs.RequestsRise.{number_of, within}
 
 module _ (p : Request → Bool) where

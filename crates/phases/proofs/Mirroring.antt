@@ -1,23 +1,11 @@
 -- The steps of a loop over one shared object, as those over another: by what they do at it, one after another.
-use Rattle.std.proofs.Common.{◌≡◌, ℕ, Bool, List, [], ◌∷◌, length, Option, Some, None, refl, ap, ◌∙◌}
-use Rattle.syntax.specs.declared.types.Value.{Value}
-use Rattle.syntax.specs.declared.types.Value.TheVariants.{I32}
-use Rattle.events.specs.declared.did.StepDid.{StepDid}
-use Rattle.events.specs.declared.phase.EntryKind.{EntryKind}
+use Rattle.phases.proofs.Words.{ap, async_handle, begun, Bool, Calls, CancelIn, Entry, EntryKind, Failed, GuestCall, GuestSteps, I32, in_state, length, List}
+use Rattle.phases.proofs.Words.{Loop, None, Option, Over, over, QueuesWork, refl, RequestIn, Running, RunsFrom, Setting, Some, State, Status, StepDid}
+use Rattle.phases.proofs.Words.{StepsWith, Value, with_requests, without_request, ℕ, [], ◌∙◌, ◌∷◌, ◌≡◌}
 use Rattle.events.specs.declared.phase.EntryKind.TheVariants as kind
-use Rattle.phases.specs.declared.entry.Entry.{Entry}
-use Rattle.phases.specs.declared.entry.Status.{Status}
-use Rattle.phases.specs.declared.entry.Status.TheVariants.{Running, Over, Failed}
-use Rattle.phases.specs.Roster.{async_handle}
-use Rattle.phases.specs.Requests.{without_request}
-use Rattle.phases.specs.State.{Setting, State, Loop}
-use Rattle.phases.specs.Calls.{Calls}
-use Rattle.phases.specs.Guests.{GuestCall, GuestSteps}
-use Rattle.phases.specs.Host.{Cancels, QueuesWork, cancel_state_of, with_requests}
-use Rattle.phases.specs.Outside.{CancelIn, RequestIn}
+use Rattle.phases.specs.Host.{Cancels, cancel_state_of}
 use Rattle.phases.proofs.StepGoes.{EntryGoes, skips, runs, works, StepGoes, rests, enters, Takes, TakesOwn, step_goes}
 use Rattle.phases.proofs.CallMoves.{Touch, Stays, ToOpen, ToCancel, ToSend, Touches, Retraces, both, call_made, cancel_retraced, queue_fate}
-use Rattle.phases.specs.Step.{StepsWith, RunsFrom, in_state, over, begun}
 use Rattle.reduction.specs.StepByStep.{StepByStep}
 use Rattle.reduction.proofs.StepByStep.{steps_simulate}
 

@@ -1,19 +1,9 @@
 -- A loop hands the order of each request out once, as its guest asked for it.
-use Rattle.std.proofs.Common.{◌≡◌, ◌≢◌, ℕ, ◌+◌, ◌<◌, ◌≤◌, Bool, true, false, cond, not, inl, inr, ◌⊎◌, List, [], ◌∷◌, ◌++◌, map, Option, Some, None, refl, sym}
-use Rattle.std.proofs.Common.{ap, subst, ◌∙◌, arith}
-use Rattle.std.specs.List.{count_by, filter, find}
-use Rattle.std.proofs.lemmas.Bool.{cases_lt, eqb-true, eq-eqb}
-use Rattle.order.specs.Work.{WorkOrder}
-use Rattle.phases.specs.declared.entry.Status.{Status}
-use Rattle.phases.specs.declared.entry.Status.TheVariants.{Failed}
-use Rattle.phases.specs.Calls.{Calls}
-use Rattle.phases.specs.Guests.{GuestCall}
-use Rattle.phases.specs.History.{Event, OrderAsked, EventStep, History, IsOpening, guest_calls}
-use Rattle.phases.specs.Laws.{hands_out, WasAsked}
-use Rattle.phases.specs.Outside.{next_order_of, next_in, handing}
-use Rattle.phases.specs.Requests.{Stage, HandedOut, Cancelled, Request, Requests, has_number, in_stage, with_stage, is_open_stage, lowest_open}
-use Rattle.phases.specs.State.{Setting, State, Loop}
-use Rattle.tallies.proofs.Filtered.{Member, found_kept}
+use Rattle.phases.proofs.Words.{ap, arith, Bool, Calls, Cancelled, cases_lt, cond, count_by, eq-eqb, eqb-true, Event, EventStep, Failed, false, filter, find}
+use Rattle.phases.proofs.Words.{found_kept, guest_calls, GuestCall, HandedOut, handing, has_number, History, in_stage, inl, inr, is_open_stage, IsOpening, List}
+use Rattle.phases.proofs.Words.{Loop, lowest_open, map, Member, next_in, next_order_of, None, not, Option, OrderAsked, refl, Request, Requests, Setting, Some}
+use Rattle.phases.proofs.Words.{Stage, State, Status, subst, sym, true, WasAsked, with_stage, WorkOrder, ℕ, [], ◌++◌, ◌+◌, ◌<◌, ◌∙◌, ◌∷◌, ◌≡◌, ◌≢◌, ◌≤◌, ◌⊎◌}
+use Rattle.phases.specs.Laws.{hands_out}
 use Rattle.phases.proofs.EventsKeep.{counted, uncounted, Keeps, kept_by, kept_along}
 use Rattle.phases.proofs.Histories.{holds_after}
 use Rattle.phases.proofs.StepsByCalls.{CallFate, changes_nothing, opens_one, cancels_one, IsKeptBy, event_keeps}

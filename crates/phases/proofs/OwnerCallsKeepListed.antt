@@ -1,20 +1,10 @@
 -- No call of a loop's owner takes away what the loop has listed.
-use Rattle.std.proofs.Common.{◌≡◌, ◌≢◌, inl, inr, ℕ, true, false, cond, List, [], ◌∷◌, map, find, Option, Some, None, refl, sym, ap, subst, ◌∙◌, eqb-true}
-use Rattle.std.proofs.lemmas.Bool.{cases_eq}
+use Rattle.phases.proofs.Words.{after_clock, Answered, answered, ap, AreKept, begun, Calls, CancelIn, Cancelled, cases_eq, cond, Ended, eqb-true, Failed, false}
+use Rattle.phases.proofs.Words.{find, finished, Grows, HandedOut, handing, has_number, in_stage, inl, inr, is_open_stage, is_settled, List, lowest_open, map}
+use Rattle.phases.proofs.Words.{next_in, next_of, next_order_of, None, Open, Option, Over, refl, Request, Requests, Running, Some, Stage, State, Status, subst}
+use Rattle.phases.proofs.Words.{sym, true, with_requests, WorkEnd, WorkOrder, ℕ, [], ◌∙◌, ◌∷◌, ◌≡◌, ◌≢◌}
 use Rattle.std.proofs.lemmas.List.Folds.{find_at}
 use Rattle.std.specs.List.{position_or_len}
-use Rattle.events.specs.declared.ended.Ended.{Ended}
-use Rattle.order.specs.Work.{WorkOrder, WorkEnd}
-use Rattle.phases.specs.declared.entry.Status.{Status}
-use Rattle.phases.specs.declared.entry.Status.TheVariants.{Running, Over, Failed}
-use Rattle.phases.specs.Fitting.{AreKept}
-use Rattle.phases.specs.Requests.{Requests, Request, Stage, Open, HandedOut, Answered, Cancelled, has_number, in_stage, is_settled, is_open_stage, lowest_open}
-use Rattle.phases.specs.State.{State}
-use Rattle.phases.specs.Calls.{Calls}
-use Rattle.phases.specs.Host.{with_requests}
-use Rattle.phases.specs.Outside.{after_clock, handing, next_of, next_in, next_order_of, answered, CancelIn}
-use Rattle.phases.specs.Step.{begun, finished}
-use Rattle.phases.specs.Ready.{Grows}
 use Rattle.phases.proofs.RequestsRise.{number_of, found_passes, at_all}
 use Rattle.phases.proofs.PhaseListsAreReady.{found_by_number, IsFoundIn}
 use Rattle.phases.proofs.CancelFates.{CancelMoves, wins, leaves, moves_of}

@@ -1,25 +1,10 @@
 -- A request of a loop's owner is a call of a guest whose whole memory is the bytes.
-use Rattle.std.proofs.Common.{◌≡◌, ◌≤◌, ◌+◌, ℕ, true, false, ◌&&◌, List, length, refl, sym, ap, subst, arith}
-use Rattle.std.specs.Prelude.{nat_lt, codes}
+use Rattle.phases.proofs.Words.{ap, AreOpenedUpTo, AreOrdersOf, arith, Calls, CallStep, codes, exports, Failed, false, Grows, GuestCall, IsLawful, IsLinked}
+use Rattle.phases.proofs.Words.{length, List, MAX_BYTES, MAX_DEPTH, nat_lt, Over, owners_call, QueuesWork, QueueWork, refl, RequestIn, Requests, Running}
+use Rattle.phases.proofs.Words.{Setting, State, Status, subst, sym, taken_out, true, with_requests, ℕ, ◌&&◌, ◌+◌, ◌≡◌, ◌≤◌}
 use Rattle.std.proofs.lemmas.Bool.{le-ltb}
 use Rattle.std.proofs.Math.Seq.{take-length}
-use Rattle.limits.specs.declared.TheConstants.{MAX_BYTES, MAX_DEPTH}
-use Rattle.imports.specs.Linking.{IsLinked}
-use Rattle.imports.specs.declared.call.Call.TheVariants.{QueueWork}
-use Rattle.order.specs.Uv.Bytes.{taken_out}
-use Rattle.phases.specs.declared.entry.Status.{Status}
-use Rattle.phases.specs.declared.entry.Status.TheVariants.{Running, Over, Failed}
-use Rattle.phases.specs.Calls.{Calls, IsLawful}
-use Rattle.phases.specs.Guests.{GuestCall}
-use Rattle.phases.specs.History.{owners_call}
-use Rattle.phases.specs.Host.{CallStep, QueuesWork, OpensNext, with_requests}
-use Rattle.phases.specs.Keeping.{AreOrdersOf}
-use Rattle.phases.specs.Ready.{Grows}
-use Rattle.phases.specs.Outside.{RequestIn}
-use Rattle.phases.specs.PhaseList.{exports}
-use Rattle.phases.specs.Requests.{Requests}
-use Rattle.phases.specs.State.{Setting, State}
-use Rattle.phases.specs.View.{AreOpenedUpTo}
+use Rattle.phases.specs.Host.{OpensNext}
 use Rattle.phases.proofs.GuestCallsKeep.{call_upto}
 use Rattle.phases.proofs.GuestCallsKeepListed.{call_grows, grows_refl}
 use Rattle.phases.proofs.Runnable.{call_orders}

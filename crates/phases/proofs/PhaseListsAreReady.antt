@@ -1,28 +1,19 @@
 -- The list of a phase is ready as the phase is entered.
-use Rattle.std.proofs.Common.{◌≡◌, ◌≢◌, ℕ, suc, ◌+◌, ◌<◌, ◌==◌, Bool, true, false, cond, List, [], ◌∷◌, ◌++◌, map, find, get_or, slice_get, All, Option, Some}
-use Rattle.std.proofs.Common.{None, refl, sym, ap, subst, ◌∙◌, arith, eq-eqb, ne_eqb}
-use Rattle.std.specs.List.{list_any}
-use Rattle.std.specs.Option.{is_some}
-use Rattle.std.proofs.lemmas.List.Elements.{All-nil, All-cons, All-append, All-map, All-weaker, All-filter, filter_passes}
+use Rattle.phases.proofs.Words.{active_asyncs, active_from, All, All-weaker, ap, AreApart, AreClosing, AreKept, AreReady, AreRising, arith, async_handle}
+use Rattle.phases.proofs.Words.{begin_list, Bool, codes, cond, Contents, Entry, eq-eqb, exports, false, find, first_list, get_or, handle_entry, has_number}
+use Rattle.phases.proofs.Words.{in_table, is_active_handle, is_settled, is_some, IsClosing, IsReady, IsSettledIn, List, list_any, map, ne_eqb, None, opening}
+use Rattle.phases.proofs.Words.{Option, phase_entered, refl, Request, Requests, Roster, RosterIsKept, settled, slice_get, Some, Spares, State, subst, suc, sym}
+use Rattle.phases.proofs.Words.{Table, true, ℕ, [], ◌++◌, ◌+◌, ◌<◌, ◌==◌, ◌∙◌, ◌∷◌, ◌≡◌, ◌≢◌}
+use Rattle.std.proofs.lemmas.List.Elements.{All-nil, All-cons, All-append, All-map, All-filter, filter_passes}
 use Rattle.std.proofs.lemmas.List.Kept.{AllPairs-cons}
-use Rattle.syntax.specs.declared.contents.Contents.{Contents}
 use Rattle.handles.specs.declared.handle.Kind.TheVariants as kind
-use Rattle.handles.specs.Table.{Table, IsClosing, due_list, kind_list}
+use Rattle.handles.specs.Table.{due_list, kind_list}
 use Rattle.events.specs.declared.phase.Phase.{Phase}
 use Rattle.events.specs.declared.phase.Phase.TheVariants.{Begin, Timers, Idle, Poll, Check, Closing}
-use Rattle.phases.specs.declared.entry.Entry.{Entry}
 use Rattle.phases.specs.declared.entry.Entry.TheVariants as entry
-use Rattle.phases.specs.Fitting.{RosterIsKept, AreClosing, AreKept, AreRising}
-use Rattle.phases.specs.PhaseList.{exports, first_list, begin_list, handle_entry, is_active_handle, active_from, active_asyncs}
-use Rattle.phases.specs.Requests.{Requests, Request, has_number, is_settled, settled}
-use Rattle.phases.specs.Roster.{Roster, in_table, async_handle}
-use Rattle.phases.specs.State.{State, opening}
-use Rattle.phases.specs.Step.{phase_entered}
-use Rattle.phases.specs.Ready.{IsSettledIn, IsReady, Spares, AreApart, AreReady}
 use Rattle.phases.proofs.RequestsRise.{number_of, rising_filter}
 use Rattle.phases.proofs.RosterKeeps.{choose, both_false}
 use Rattle.phases.proofs.GuestCallsKeepListed.{IsSettledOne}
-use Rattle.std.specs.Prelude.{codes}
 
 -- entries that spare whatever is behind them
 abbrev SparesAll : Entry → Type 0

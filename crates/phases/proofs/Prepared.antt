@@ -1,21 +1,10 @@
 -- What a step comes to before its callback runs.
-use Rattle.std.proofs.Common.{◌≡◌, ℕ, Bool, true, false, MatchBool, not, ◌&&◌, List, [], None, refl, sym, subst}
-use Rattle.syntax.specs.declared.contents.Contents.{Contents}
-use Rattle.syntax.specs.declared.types.Value.{Value}
-use Rattle.reduction.specs.Invoking.{TakesArguments, HasNoResults}
-use Rattle.events.specs.Phases.{may_end}
-use Rattle.events.specs.declared.did.StepDid.{StepDid}
-use Rattle.events.specs.declared.phase.EntryKind.{EntryKind}
+use Rattle.phases.proofs.Words.{Bool, Calls, Contents, EntryKind, false, GuestCall, HasNoResults, is_alive, List, Loop, MatchBool, may_end, None, not, Prepares}
+use Rattle.phases.proofs.Words.{RanNone, refl, RunsFrom, Setting, State, StepDid, subst, sym, TakesArguments, true, turn, Value, whole_did, ℕ, [], ◌&&◌, ◌≡◌}
 use Rattle.phases.specs.declared.callback.Prepared.{Prepared}
 use Rattle.phases.specs.declared.callback.Prepared.TheVariants.{Did, Runs}
 use Rattle.phases.specs.declared.did.BareDid.{BareDid}
-use Rattle.phases.specs.Bare.{whole_did}
-use Rattle.phases.specs.Calls.{Calls}
-use Rattle.phases.specs.Guests.{GuestCall}
-use Rattle.phases.specs.Inner.Preparing.{Prepares, CanRunIn}
-use Rattle.phases.specs.PhaseList.{is_alive}
-use Rattle.phases.specs.State.{Setting, State, Loop}
-use Rattle.phases.specs.Step.{RunsFrom, RanNone, turn}
+use Rattle.phases.specs.Inner.Preparing.{CanRunIn}
 
 -- a callback that may read nothing
 abbrev pub unread : EntryKind → (number function : ℕ) → List Value → Prepared

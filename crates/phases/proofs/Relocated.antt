@@ -1,25 +1,8 @@
 -- A callback that is under way over one host is so over each that stands alike.
-use Rattle.std.proofs.Common.{◌≡◌, ℕ, List, refl, ap, ◌∙◌, subst}
+use Rattle.phases.proofs.Words.{ap, AreOpenedUpTo, AreTables, Caller, Calls, Contents, Host, HostCall, HostStep, Lawful, List, moves, Paused, refl, RunIsPaused}
+use Rattle.phases.proofs.Words.{Setting, setting_of, SideTable, State, steps_map, Store, subst, ValidModule, Value, View, ℕ, ◌∙◌, ◌≡◌}
 use Rattle.std.proofs.Props.{props}
-use Rattle.syntax.specs.declared.types.Value.{Value}
-use Rattle.syntax.specs.declared.contents.Contents.{Contents}
-use Rattle.validate.specs.Valid.{ValidModule}
-use Rattle.validate.specs.Targets.{AreTables}
-use Rattle.validate.specs.declared.side_table.SideTable.{SideTable}
-use Rattle.instance.specs.Store.{Store}
-use Rattle.instance.specs.declared.stack.Caller.{Caller}
-use Rattle.reduction.specs.Run.{HostCall}
-use Rattle.reduction.specs.Hosting.{Lawful}
-use Rattle.reduction.proofs.StepByStep.{steps_map}
-use Rattle.interp.specs.declared.paused.Paused.{Paused}
-use Rattle.interp.specs.Slices.{RunIsPaused}
 use Rattle.interp.proofs.Slots.OtherHosts.{came_by, paused_over}
-use Rattle.phases.specs.Calls.{Calls}
-use Rattle.phases.specs.Host.{HostStep}
-use Rattle.phases.specs.Settings.{setting_of}
-use Rattle.phases.specs.State.{Setting, State}
-use Rattle.phases.specs.Underway.{Host, moves}
-use Rattle.phases.specs.View.{View, AreOpenedUpTo}
 use Rattle.phases.proofs.GuestCallsKeep.{served}
 
 -- what is opened is so in one way

@@ -1,13 +1,10 @@
 -- How the request of one number fares among a loop's requests.
-use Rattle.std.proofs.Common.{◌≡◌, ◌≢◌, ℕ, ◌+◌, ◌<◌, ◌≤◌, Bool, true, false, cond, not, inl, inr, List, [], ◌∷◌, ◌++◌, map, Some, refl, sym, ap, subst, ◌∙◌, arith}
-use Rattle.std.specs.List.{filter}
-use Rattle.std.proofs.lemmas.Bool.{cases_eq, cases_lt, eqb-true, eq-eqb, ne_eqb}
+use Rattle.phases.proofs.Words.{Answered, answered, ap, arith, Bool, Cancelled, cases_eq, cases_lt, cond, eq-eqb, eqb-true, false, filter, found_kept}
+use Rattle.phases.proofs.Words.{HandedOut, has_number, in_stage, inl, inr, is_open_stage, is_settled, IsEndOf, IsOneOf, List, lowest_open, map, Member, ne_eqb}
+use Rattle.phases.proofs.Words.{not, Open, refl, Request, request_of, Requests, Some, Stage, subst, sym, true, with_stage, with_work, without_request, WorkEnd}
+use Rattle.phases.proofs.Words.{WorkOrder, ℕ, [], ◌++◌, ◌+◌, ◌<◌, ◌∙◌, ◌∷◌, ◌≡◌, ◌≢◌, ◌≤◌}
 use Rattle.std.proofs.lemmas.List.Elements.{filter-append}
-use Rattle.order.specs.Work.{WorkOrder, WorkEnd, IsEndOf}
-use Rattle.phases.specs.Requests.{Stage, Open, HandedOut, Answered, Cancelled, Request, Requests, has_number, request_of, in_stage, with_stage, without_request}
-use Rattle.phases.specs.Requests.{with_work, is_open_stage, is_settled, lowest_open}
-use Rattle.phases.specs.Outside.{IsOneOf, answered}
-use Rattle.tallies.proofs.Filtered.{first, Member, find_first, first_passes, filter_mapped, found_kept, filter_kept, filter_dropped}
+use Rattle.tallies.proofs.Filtered.{first, find_first, first_passes, filter_mapped, filter_kept, filter_dropped}
 
 abbrev pub numbered : ℕ → Requests → List Request
 numbered r rs = filter (has_number r) rs.outstanding

@@ -1,16 +1,14 @@
 -- Requests that rise by their numbers, and what changes one of them.
-use Rattle.std.proofs.Common.{◌≡◌, ℕ, zero, suc, ◌+◌, ◌<◌, ◌≤◌, ◌==◌, ◌||◌, Bool, true, false, cond, not, List, [], ◌∷◌, ◌++◌, length, map, filter, set}
-use Rattle.std.proofs.Common.{get_or, Some, None, refl, sym, ap, subst, ◌∙◌, arith, inl, inr, ◌⊎◌, length-append, length-set}
-use Rattle.std.specs.List.{find, list_any, slice_get, remove, All}
-use Rattle.std.proofs.lemmas.Bool.{eq-eqb, ne_eqb, eqb-true}
+use Rattle.phases.proofs.Words.{All, Answered, ap, AreKept, AreRising, arith, Bool, cancellation, Cancelled, Completion, completion_of, cond, end_completion}
+use Rattle.phases.proofs.Words.{eq-eqb, eqb-suc-zero, eqb-true, false, filter, find, get_or, get_or_from_slice_get, has_number, in_stage, inl, inr, is_empty}
+use Rattle.phases.proofs.Words.{IsEndOf, length, List, list_any, map, MAX_BYTES, MAX_REQUEST_NUMBER, MAX_REQUESTS, ne_eqb, None, not, Open, refl, Request, set}
+use Rattle.phases.proofs.Words.{slice_get, slice_get_within, Some, Stage, subst, suc, sym, true, WorkEnd, WorkOrder, zero, ℕ, [], ◌++◌, ◌+◌, ◌<◌, ◌==◌, ◌||◌}
+use Rattle.phases.proofs.Words.{◌∙◌, ◌∷◌, ◌≡◌, ◌≤◌, ◌⊎◌}
+use Rattle.std.proofs.Common.{length-append, length-set}
+use Rattle.std.specs.List.{remove}
 use Rattle.std.proofs.lemmas.List.Elements.{All-filter, All-push, All-set}
-use Rattle.std.proofs.lemmas.Option.{get_or_from_slice_get, slice_get_within}
-use Rattle.limits.specs.declared.TheConstants.{MAX_BYTES, MAX_REQUESTS, MAX_REQUEST_NUMBER}
-use Rattle.order.specs.Work.{WorkOrder, WorkEnd, Done, IsEndOf, IsShortEnd}
-use Rattle.phases.specs.Requests.{Request, Stage, Open, Answered, Cancelled, has_number, in_stage, Completion, cancellation, completion_of, end_completion}
-use Rattle.std.proofs.Math.Dec.{eqb-suc-zero}
-use Rattle.phases.specs.PhaseList.{is_empty}
-use Rattle.phases.specs.Fitting.{AreRising, IsRight, IsTrueTo, AreKept}
+use Rattle.order.specs.Work.{Done, IsShortEnd}
+use Rattle.phases.specs.Fitting.{IsRight, IsTrueTo}
 
 abbrev pub number_of : Request → ℕ
 number_of r = r.order.request

@@ -1,22 +1,15 @@
 -- What a roster keeps as a handle is made, changed, closed or removed.
-use Rattle.std.proofs.Common.{◌≡◌, ◌≢◌, ℕ, zero, suc, ◌+◌, ◌-◌, ◌<◌, ◌≤◌, ◌==◌, Bool, true, false, cond, not, ◌||◌, ◌⊎◌, List, [], ◌∷◌, ◌++◌, length}
-use Rattle.std.proofs.Common.{map, filter, Option, Some, None, refl, sym, ap, subst, ◌∙◌, inl, inr, IsSomeAnd, arith}
-use Rattle.std.specs.List.{list_any}
-use Rattle.std.specs.Option.{is_some}
+use Rattle.phases.proofs.Words.{after_again, ap, AreClosing, arith, Bool, cases_eq, cond, eq-eqb, false, filter, inl, inr, is_callback, is_handle, is_some}
+use Rattle.phases.proofs.Words.{IsClosing, IsSomeAnd, Kind, length, List, list_any, list_any-append, map, MAX_HANDLES, ne_eqb, None, not, Option, or_right}
+use Rattle.phases.proofs.Words.{Record, record_of, refl, Roster, RosterIsKept, same_kind, Some, subst, suc, sym, Table, true, unless_handle, with_async}
+use Rattle.phases.proofs.Words.{with_handles, with_made, without_handle, zero, ℕ, [], ◌++◌, ◌+◌, ◌-◌, ◌<◌, ◌==◌, ◌||◌, ◌∙◌, ◌∷◌, ◌≡◌, ◌≢◌, ◌≤◌, ◌⊎◌}
 use Rattle.std.specs.Cmp.{nat_cmp_total, unsigned_tied}
 use Rattle.std.specs.Ordering.{nat_cmp}
 use Rattle.std.specs.FinMap as finite
 use Rattle.std.specs.FinMap.{FinMap}
-use Rattle.std.proofs.lemmas.Bool.{cases_eq, eq-eqb, ne_eqb, or_right}
-use Rattle.std.proofs.lemmas.List.Folds.{list_any-append}
-use Rattle.limits.specs.declared.TheConstants.{MAX_HANDLES}
-use Rattle.handles.specs.declared.handle.Record.{Record}
-use Rattle.handles.specs.declared.handle.Kind.{Kind}
 use Rattle.handles.specs.declared.handle.Kind.TheVariants as kind
-use Rattle.handles.specs.Table.{Table, record_of, IsClosing, IsOpen, new_record, with_record, with_started, saturated, stopped, closed}
-use Rattle.handles.specs.Table.{after_start, after_stop, after_again, after_close, after_remove, same_kind}
-use Rattle.phases.specs.Roster.{Roster, is_callback, is_handle, unless_handle, with_handles, with_made, with_async, without_handle}
-use Rattle.phases.specs.Fitting.{RosterIsKept, AreClosing, has_duty}
+use Rattle.handles.specs.Table.{IsOpen, new_record, with_record, with_started, saturated, stopped, closed, after_start, after_stop, after_close, after_remove}
+use Rattle.phases.specs.Fitting.{has_duty}
 
 pub choose : {X : Type 0} (P : X → Type 0) (b : Bool) (x y : X) → (b ≡ true → P x) → (b ≡ false → P y) → P (cond b x y)
 choose P true x y f g = f refl

@@ -1,37 +1,17 @@
 -- What a loop has outstanding are orders of the loop, which can be run.
-use Rattle.std.proofs.Common.{◌≡◌, ℕ, suc, ◌≤◌, ◌||◌, ◌&&◌, Bool, true, false, cond, not, List, [], ◌∷◌, length, find, take}
-use Rattle.std.proofs.Common.{drop, All, Option, Some, None, refl, sym, subst, MatchOption, codes, slice_get, arith, min}
-use Rattle.std.specs.List.{list_any}
-use Rattle.std.specs.Str.{bytes_eq}
-use Rattle.std.proofs.lemmas.Slice.Eq.{bytes_eq-Decides}
+use Rattle.phases.proofs.Words.{Bool, bytes_eq-Decides, ExportsFunction, get_or_from_slice_get, is_open_stage, next_order_of, slice_get_within, without_request}
+use Rattle.phases.proofs.Words.{All, All-weaker, AreOrdersOf, has_number, is_settled, IsSettledIn, lowest_open, MatchOption, request_of, steps_keep, with_stage}
+use Rattle.phases.proofs.Words.{Cancelled, CanRun, GuestCall, HandedOut, IsOrderOf, MAX_BYTES, MAX_DEPTH, next_work, slice_get, taken_out, with_work, WorkOrder}
+use Rattle.phases.proofs.Words.{All-head, All-tail, bytes_eq, CallStep, Contents, exports, handing, HostCall, HostStep, in_stage, IsLinked, list_any, Requests}
+use Rattle.phases.proofs.Words.{arith, Calls, codes, Failed, false, Lawful, length, next_in, Option, Request, Running, Setting, Stage, State, Status, subst, []}
+use Rattle.phases.proofs.Words.{Call, cond, drop, find, List, None, not, Open, Over, refl, Some, suc, sym, take, true, ℕ, ◌&&◌, ◌||◌, ◌∷◌, ◌≡◌, ◌≤◌}
+use Rattle.std.proofs.Common.{min}
 use Rattle.std.proofs.lemmas.Bool.{ltb-false}
 use Rattle.std.proofs.lemmas.List.{length-take}
-use Rattle.std.proofs.lemmas.List.Elements.{All-append, All-map, All-weaker, All-get_or, All-cons, All-head, All-tail, All-filter}
-use Rattle.std.proofs.lemmas.Option.{slice_get_within, get_or_from_slice_get}
-use Rattle.limits.specs.declared.TheConstants.{MAX_DEPTH, MAX_BYTES}
-use Rattle.syntax.specs.declared.contents.Contents.{Contents}
+use Rattle.std.proofs.lemmas.List.Elements.{All-append, All-map, All-get_or, All-cons, All-filter}
 use Rattle.syntax.specs.declared.contents.ModuleExport.{ModuleExport}
-use Rattle.reduction.specs.Run.{HostCall}
-use Rattle.reduction.specs.Hosting.{Lawful}
-use Rattle.reduction.proofs.StepByStep.{steps_keep}
-use Rattle.imports.specs.declared.call.Call.{Call}
 use Rattle.imports.specs.declared.entry_point.EntryPoint.TheVariants.{Work}
-use Rattle.imports.specs.Linking.{IsLinked, IsCallable, ExportsFunction}
-use Rattle.order.specs.Uv.Bytes.{taken_out}
-use Rattle.order.specs.Work.{WorkOrder}
-use Rattle.phases.specs.PhaseList.{exports}
-use Rattle.phases.specs.Requests.{Requests, Request, Stage, Open, HandedOut, Cancelled, in_stage, has_number, with_stage, with_work, without_request}
-use Rattle.phases.specs.Requests.{lowest_open, is_open_stage, is_settled, request_of}
-use Rattle.phases.specs.State.{Setting, State}
-use Rattle.phases.specs.Calls.{Calls}
-use Rattle.phases.specs.declared.entry.Status.{Status}
-use Rattle.phases.specs.declared.entry.Status.TheVariants.{Running, Over, Failed}
-use Rattle.phases.specs.Outside.{handing, next_in, next_order_of}
-use Rattle.phases.specs.Host.{next_work, CallStep, HostStep}
-use Rattle.phases.specs.Ready.{IsSettledIn}
-use Rattle.order.specs.Runnable.{CanRun}
-use Rattle.phases.specs.Keeping.{IsOrderOf, AreOrdersOf}
-use Rattle.phases.specs.Guests.{GuestCall}
+use Rattle.imports.specs.Linking.{IsCallable}
 use Rattle.phases.proofs.CallMoves.{CallMoves, leaves_all, opens, cancels_won, MayOpen, call_moves}
 use Rattle.phases.proofs.CancelFates.{CancelFate, cancelled, stayed}
 

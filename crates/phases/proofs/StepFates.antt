@@ -1,26 +1,11 @@
 -- What one step of a loop does to the request of one number.
-use Rattle.std.proofs.Common.{◌≡◌, ℕ, ◌≤◌, inl, inr, ◌⊎◌, List, [], ◌∷◌, ◌++◌, Option, Some, None, refl, sym, ap}
-use Rattle.std.proofs.Common.{subst, ◌∙◌, arith}
-use Rattle.std.specs.List.{Contains}
+use Rattle.phases.proofs.Words.{AfterWork, ap, arith, begun, Calls, Cancelled, Completion, completion_of, Contains, Entry, EntryKind, GuestCall, GuestStep}
+use Rattle.phases.proofs.Words.{GuestSteps, I32, in_state, inl, inr, IsCancel, List, Loop, next_work, None, Option, over, refl, Request, request_of, Requests}
+use Rattle.phases.proofs.Words.{RunsFrom, Setting, Some, State, StepDid, steps_keep, StepsWith, subst, sym, taken_out, Value, WasAsked, with_requests}
+use Rattle.phases.proofs.Words.{without_request, WorkOrder, ℕ, [], ◌++◌, ◌∙◌, ◌∷◌, ◌≡◌, ◌≤◌, ◌⊎◌}
 use Rattle.std.proofs.lemmas.List.Elements.{Contains-append_left, Contains-append_cases, Contains-push, Contains-push_cases}
-use Rattle.syntax.specs.declared.types.Value.{Value}
-use Rattle.syntax.specs.declared.types.Value.TheVariants.{I32}
-use Rattle.order.specs.Work.{WorkOrder}
-use Rattle.order.specs.Uv.Bytes.{taken_out}
-use Rattle.events.specs.declared.did.StepDid.{StepDid}
-use Rattle.events.specs.declared.phase.EntryKind.{EntryKind}
 use Rattle.events.specs.declared.phase.EntryKind.TheVariants as kind
-use Rattle.phases.specs.declared.entry.Entry.{Entry}
 use Rattle.phases.specs.declared.entry.Entry.TheVariants as entry
-use Rattle.phases.specs.Requests.{Cancelled, Request, Requests, Completion, request_of, without_request, completion_of}
-use Rattle.phases.specs.State.{Setting, State, Loop}
-use Rattle.phases.specs.Calls.{Calls}
-use Rattle.phases.specs.Host.{next_work, with_requests}
-use Rattle.phases.specs.Step.{StepsWith, RunsFrom, AfterWork, in_state, over}
-use Rattle.phases.specs.Step.{begun}
-use Rattle.phases.specs.Guests.{GuestCall, GuestStep, GuestSteps}
-use Rattle.phases.specs.Laws.{WasAsked, IsCancel}
-use Rattle.reduction.proofs.StepByStep.{steps_keep}
 use Rattle.phases.proofs.StepGoes.{EntryGoes, skips, runs, works, StepGoes, rests, enters, after_of, same_requests, step_goes}
 use Rattle.phases.proofs.StepsByCalls.{CallFate, changes_nothing, opens_one, cancels_one, call_fate}
 use Rattle.phases.proofs.RequestByNumber.{Fits, Covers, Same, Stages, numbered, fits_more, fits_staged, fits_opened, fits_removed, fits_ran, was_given, only_found}

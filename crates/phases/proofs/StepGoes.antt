@@ -1,29 +1,16 @@
 -- How one step of a loop goes over its object, and what makes it a step over another.
-use Rattle.std.proofs.Common.{◌≡◌, ℕ, ◌==◌, ◌&&◌, Bool, true, false, cond, not, List, [], ◌∷◌, Option, Some, None, refl, ap, ◌∙◌, MatchBool, MatchOption}
-use Rattle.syntax.specs.declared.types.Value.{Value}
-use Rattle.syntax.specs.declared.types.Value.TheVariants.{I32}
+use Rattle.phases.proofs.Words.{after_again, AfterWork, ap, async_handle, Bool, Calls, CallsHandle, Completion, completion_of, cond, Ended, Entry, EntryKind}
+use Rattle.phases.proofs.Words.{EntryStep, Failed, false, GuestCall, handle_function, I32, in_state, is_active_handle, is_alive, is_as_listed, List, ListStep}
+use Rattle.phases.proofs.Words.{Loop, MatchBool, MatchOption, may_end, None, not, Option, Over, over, phase_entered, Ran, refl, Request, request_of, Running}
+use Rattle.phases.proofs.Words.{RunsFrom, Setting, sharing, Skips, Some, State, Status, StepDid, StepsWith, TakesFirst, true, turn, Value, with_handles}
+use Rattle.phases.proofs.Words.{with_roster, without_handle, ℕ, [], ◌&&◌, ◌==◌, ◌∙◌, ◌∷◌, ◌≡◌}
 use Rattle.handles.specs.declared.handle.Kind.TheVariants as handle_kind
-use Rattle.handles.specs.Table.{after_again}
-use Rattle.events.specs.declared.ended.Ended.{Ended}
-use Rattle.events.specs.declared.did.StepDid.{StepDid}
-use Rattle.events.specs.declared.did.StepDid.TheVariants.{Entered, Ran}
+use Rattle.events.specs.declared.did.StepDid.TheVariants.{Entered}
 use Rattle.events.specs.declared.did.StepDid.TheVariants as step
-use Rattle.events.specs.declared.phase.EntryKind.{EntryKind}
 use Rattle.events.specs.declared.phase.EntryKind.TheVariants as kind
-use Rattle.events.specs.Phases.{may_end, next_phase}
-use Rattle.phases.specs.declared.entry.Entry.{Entry}
+use Rattle.events.specs.Phases.{next_phase}
 use Rattle.phases.specs.declared.entry.Entry.TheVariants as entry
-use Rattle.phases.specs.declared.entry.Status.{Status}
-use Rattle.phases.specs.declared.entry.Status.TheVariants.{Running, Over, Failed}
-use Rattle.phases.specs.Roster.{async_handle, with_handles, without_handle}
-use Rattle.phases.specs.Requests.{Request, Completion, request_of, completion_of}
-use Rattle.phases.specs.State.{Setting, State, Loop}
-use Rattle.phases.specs.PhaseList.{is_alive, is_active_handle}
-use Rattle.phases.specs.Calls.{Calls}
-use Rattle.phases.specs.Guests.{GuestCall}
-use Rattle.phases.specs.Host.{with_roster}
-use Rattle.phases.specs.Step.{StepsWith, StepIn, ListStep, EntryStep, RunsFrom, CallsBack, CallsHandle, Skips, TakesFirst, AfterWork, in_state, sharing, over, turn, phase_entered, now_in}
-use Rattle.phases.specs.Step.{is_as_listed, handle_function}
+use Rattle.phases.specs.Step.{StepIn, CallsBack, now_in}
 
 -- what a step tells of an after-work callback
 abbrev pub after_of : StepDid → Option ℕ

@@ -1,34 +1,13 @@
 -- What the steps of a loop make of its guest's calls and of its requests, one call at a time.
-use Rattle.std.proofs.Common.{◌≡◌, ℕ, ◌+◌, ◌≤◌, Bool, true, false, List, [], ◌∷◌, ◌++◌, Option, Some, None}
-use Rattle.std.proofs.Common.{refl, sym, ap, subst, ◌∙◌, arith, append_assoc, append-nil}
-use Rattle.std.proofs.lemmas.Bool.{ne_eqb}
-use Rattle.limits.specs.declared.TheConstants.{MAX_REQUEST_NUMBER}
-use Rattle.syntax.specs.declared.types.Value.{Value}
-use Rattle.syntax.specs.declared.types.Value.TheVariants.{I32}
-use Rattle.reduction.specs.Run.{HostCall}
-use Rattle.imports.specs.declared.call.Call.{Call}
-use Rattle.imports.specs.declared.call.Call.TheVariants.{QueueWork, Cancel}
-use Rattle.order.specs.declared.uv.answers.TheConstants.{NOT_HERE}
-use Rattle.order.specs.Work.{WorkOrder, WorkEnd}
-use Rattle.order.specs.Uv.Bytes.{taken_out}
-use Rattle.events.specs.declared.did.StepDid.{StepDid}
-use Rattle.events.specs.declared.phase.EntryKind.{EntryKind}
+use Rattle.phases.proofs.Words.{Answered, ap, append-nil, append_assoc, arith, asks_for, begun, Bool, Call, Calls, calls_in, CallStep, Cancel, CancelAnswered}
+use Rattle.phases.proofs.Words.{Cancelled, ClockRaised, EndOffered, Entry, EntryKind, Event, EventStep, Failed, false, guest_calls, GuestCall, GuestStep}
+use Rattle.phases.proofs.Words.{GuestSteps, HandedOut, handing, History, HostCall, I32, in_state, is_open_stage, IsCancel, List, Loop, lowest_open}
+use Rattle.phases.proofs.Words.{MAX_REQUEST_NUMBER, MovedBeside, ne_eqb, next_in, next_order_of, next_work, None, NOT_HERE, Offers, Option, OrderAsked, Over}
+use Rattle.phases.proofs.Words.{over, owners_call, QueueWork, refl, Request, request_of, RequestAnswered, RequestIn, Requests, Running, RunsFrom, Setting, Some}
+use Rattle.phases.proofs.Words.{Stage, State, Status, StepDid, Stepped, steps_keep, StepsWith, subst, sym, taken_out, true, Value, with_requests, with_stage}
+use Rattle.phases.proofs.Words.{with_work, without_request, WorkEnd, WorkOrder, ℕ, [], ◌++◌, ◌+◌, ◌∙◌, ◌∷◌, ◌≡◌, ◌≤◌}
 use Rattle.events.specs.declared.phase.EntryKind.TheVariants as kind
-use Rattle.phases.specs.declared.entry.Entry.{Entry}
-use Rattle.phases.specs.declared.entry.Status.{Status}
-use Rattle.phases.specs.declared.entry.Status.TheVariants.{Running, Over, Failed}
-use Rattle.phases.specs.Requests.{Stage, HandedOut, Answered, Cancelled, Request, Requests, request_of, with_stage, without_request, with_work, is_open_stage, lowest_open}
-use Rattle.phases.specs.State.{Setting, State, Loop}
-use Rattle.phases.specs.Calls.{Calls}
-use Rattle.phases.specs.Host.{CallStep, next_work, with_requests}
-use Rattle.phases.specs.Step.{StepsWith, RunsFrom, in_state, over}
-use Rattle.phases.specs.Step.{begun}
-use Rattle.phases.specs.Guests.{GuestCall, GuestStep, GuestSteps}
-use Rattle.phases.specs.History.{Event, Stepped, OrderAsked, EndOffered, CancelAnswered, RequestAnswered, ClockRaised, MovedBeside, EventStep, Offers, History, owners_call, calls_in, guest_calls}
-use Rattle.phases.specs.Laws.{asks_for, IsCancel}
-use Rattle.phases.specs.Outside.{RequestIn, next_order_of, next_in, handing}
 use Rattle.phases.proofs.CallMoves.{CallMoves, leaves_all, opens, cancels_won, call_moves, other_call}
-use Rattle.reduction.proofs.StepByStep.{steps_keep}
 use Rattle.phases.proofs.StepGoes.{EntryGoes, skips, runs, works, StepGoes, rests, enters, TakesOwn, same_requests, step_goes}
 use Rattle.phases.proofs.CancelFates.{IsBeside, took, CancelFate, stayed, cancelled, fate_in}
 

@@ -1,33 +1,14 @@
 -- A step that is made in slices.
-use Rattle.std.proofs.Common.{◌≡◌, ℕ, ◌<◌, ◌≤◌, List, [], ◌∷◌, length, Option, refl, sym, ap, ◌∙◌, arith}
-use Rattle.syntax.specs.Loaded.{Loaded}
-use Rattle.syntax.specs.declared.types.Value.{Value}
-use Rattle.syntax.specs.declared.contents.Contents.{Contents}
-use Rattle.validate.specs.Valid.{ValidModule}
-use Rattle.validate.specs.Targets.{AreTables}
-use Rattle.validate.specs.declared.side_table.SideTable.{SideTable}
-use Rattle.instance.specs.Store.{Store}
-use Rattle.instance.specs.Stops.{Halt}
-use Rattle.instance.specs.declared.stack.Caller.{Caller}
-use Rattle.events.specs.declared.ended.Ended.{Ended}
-use Rattle.events.specs.declared.phase.EntryKind.{EntryKind}
+use Rattle.phases.proofs.Words.{ap, AreTables, arith, begun, Caller, calling, Calls, Contents, Core, Ended, EntryKind, Halt, HasNoResults, Host, IsLinked}
+use Rattle.phases.proofs.Words.{KeepsLoop, Leads, length, List, Loaded, Loop, moves, Option, Paused, refl, RunIsOver, RunIsPaused, scene, Setting, setting_of}
+use Rattle.phases.proofs.Words.{SideTable, State, Store, sym, TakesArguments, ValidModule, ValType, Value, ℕ, [], ◌<◌, ◌∙◌, ◌∷◌, ◌≡◌, ◌≤◌}
 use Rattle.events.specs.Bare.{IsBare}
 use Rattle.events.specs.declared.ended.Ending.{Ending}
 use Rattle.events.specs.declared.ended.Ending.TheVariants.{Return}
-use Rattle.reduction.specs.Invoking.{TakesArguments, HasNoResults, ReturnsTyped}
+use Rattle.reduction.specs.Invoking.{ReturnsTyped}
 use Rattle.reduction.specs.Running.{AreResults}
-use Rattle.syntax.specs.declared.types.ValType.{ValType}
-use Rattle.reduction.specs.Leading.{Leads, calling, scene}
-use Rattle.interp.specs.declared.paused.Paused.{Paused}
-use Rattle.interp.specs.Slices.{RunIsPaused, RunIsOver}
-use Rattle.phases.specs.Calls.{Calls}
-use Rattle.phases.specs.Keeping.{KeepsLoop}
-use Rattle.phases.specs.Settings.{setting_of}
-use Rattle.imports.specs.Linking.{IsLinked}
 use Rattle.order.proofs.InSlices.{bare_is_defined}
-use Rattle.phases.specs.State.{Setting, State, Loop, Core}
-use Rattle.phases.specs.Step.{begun}
-use Rattle.phases.specs.Underway.{StepInSlices, Host, moves, StepHasCome, IsCallback}
+use Rattle.phases.specs.Underway.{StepInSlices, StepHasCome, IsCallback}
 use Rattle.phases.proofs.Relocated.{placed, placed_is, paused_at_placed, same_made}
 
 module _ {S : Type 0} (calls : Calls S) (loaded : Loaded) (kind : EntryKind) (number : ℕ) (tables : List SideTable) where

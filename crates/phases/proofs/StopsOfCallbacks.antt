@@ -1,16 +1,7 @@
 -- Where a callback stopped, told of its loop.
-use Rattle.std.proofs.Common.{ℕ, List, Option, Some, None, IfSome, ◌≡◌, subst, sym, ◌∙◌}
-use Rattle.syntax.specs.Loaded.{Loaded}
-use Rattle.syntax.specs.declared.types.Value.{Value}
-use Rattle.instance.specs.Store.{Store}
-use Rattle.instance.specs.Stops.{Halt}
-use Rattle.events.specs.declared.ended.Ended.{Ended}
-use Rattle.reduction.specs.Leading.{Leads, calling, scene}
-use Rattle.phases.specs.Calls.{Calls}
-use Rattle.phases.specs.Host.{HostStep}
+use Rattle.phases.proofs.Words.{calling, Calls, Ended, Halt, HostStep, IfSome, Leads, List, Loaded, LoopStopsAt, None, Option, scene, Setting, Some, State}
+use Rattle.phases.proofs.Words.{Store, subst, sym, Value, ℕ, ◌∙◌, ◌≡◌}
 use Rattle.phases.specs.Hosting.{Answered}
-use Rattle.phases.specs.State.{Setting, State}
-use Rattle.phases.specs.Stopping.{LoopStopsAt}
 use Rattle.phases.proofs.GuestCallsKeep.{served}
 
 -- where a call on the host of a loop stopped, if it did

@@ -1,15 +1,10 @@
 -- A byte lies in one body only.
-use Rattle.std.proofs.Common.{◌≡◌, ℕ, ◌+◌, ◌*◌, ◌<◌, ◌≤◌, List, [], ◌∷◌, ◌++◌, length, drop, Bool, true, false, rules, Option, Some, None, IfSome, refl, ap, sym, ◌∙◌, append-nil, arith, ◌⊎◌, inl, inr, ◌↔◌, nat_lt}
-use Rattle.std.specs.Prelude.{slice_range, IsTrue}
-use Rattle.std.proofs.lemmas.List.{length-drop, length-append}
-use Rattle.std.proofs.lemmas.Bool.{ltb_from_iff}
-use Rattle.syntax.specs.Language.{Language, Leaves, IsPrefixFree, u32, counted, items, ◌⨾◌}
-use Rattle.syntax.specs.Binary.{Section}
-use Rattle.syntax.proofs.Joins.{joined, apart, items_none, free_u32, free_counted}
-use Rattle.syntax.proofs.ModuleLaws.{free_section}
-use Rattle.places.specs.Spans.{StandsBetween, FirstSectionAt, BodyAt, NoBody}
-use Rattle.places.specs.Walks.{IsTheOne, NoneBegins, LeavesNone, FirstSection, repeated}
-use Rattle.places.specs.Lengths.{integer, IsInLocals}
+use Rattle.places.proofs.Words.{FirstSection, FirstSectionAt, free_counted, free_section, IsPrefixFree, length-append, length-drop, ltb_from_iff, StandsBetween}
+use Rattle.places.proofs.Words.{BodyAt, counted, free_u32, integer, IsTheOne, items_none, Language, LeavesNone, NoneBegins, repeated, Section, slice_range, sym}
+use Rattle.places.proofs.Words.{apart, arith, drop, IsTrue, items, joined, Leaves, length, List, None, refl, rules, u32, ℕ, [], ◌++◌, ◌+◌, ◌∷◌, ◌≡◌, ◌≤◌, ◌⨾◌}
+use Rattle.std.proofs.Common.{◌*◌, ◌<◌, Bool, true, false, Option, Some, IfSome, ap, ◌∙◌, append-nil, ◌⊎◌, inl, inr, ◌↔◌, nat_lt}
+use Rattle.places.specs.Spans.{NoBody}
+use Rattle.places.specs.Lengths.{IsInLocals}
 use Rattle.places.proofs.SpanLaws.{PastBodies, items_push, length_between}
 use Rattle.places.proofs.WalkLaws.{GoesOn, either, first_one, first_section}
 use Rattle.places.proofs.LengthLaws.{integer_one, repeated_one}

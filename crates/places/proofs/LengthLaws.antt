@@ -1,13 +1,10 @@
 -- What lengths tell is of one place.
-use Rattle.std.proofs.Common.{◌≡◌, ℕ, zero, suc, ◌+◌, ◌^◌, ◌<◌, ◌≤◌, List, [], ◌∷◌, ◌++◌, length, drop, Option, Some, None, IfSome, refl, ap, sym, ◌∙◌, arith, ◌⊎◌, inl, inr, slice_get}
-use Rattle.std.proofs.lemmas.List.{drop_more, drop_all}
-use Rattle.std.proofs.lemmas.Option.{slice_get_within, get_or_from_slice_get}
-use Rattle.syntax.specs.Language.{Language, Leaves, IsPrefixFree, byte, u32, counted, ◌⨾◌}
-use Rattle.syntax.specs.Binary.{Section}
-use Rattle.syntax.proofs.Joins.{joined, apart, items_none, free_u32, free_byte, free_counted}
-use Rattle.syntax.proofs.ModuleLaws.{free_section}
-use Rattle.places.specs.Walks.{IsTheOne, NoneBegins, LeavesNone, FirstOf, FirstSection, repeated}
-use Rattle.places.specs.Lengths.{integer, immediates_of, operation, held_behind, BeginsWithSegment, ChainOf, HasNewer}
+use Rattle.places.proofs.Words.{apart, arith, byte, counted, drop, drop_all, drop_more, FirstOf, FirstSection, free_byte, free_counted, free_section, free_u32}
+use Rattle.places.proofs.Words.{get_or_from_slice_get, immediates_of, integer, IsPrefixFree, IsTheOne, items_none, joined, Language, Leaves, LeavesNone, length}
+use Rattle.places.proofs.Words.{List, None, NoneBegins, operation, refl, repeated, Section, slice_get_within, suc, sym, u32, zero, ℕ, [], ◌++◌, ◌+◌, ◌∷◌, ◌≡◌}
+use Rattle.places.proofs.Words.{◌≤◌, ◌⨾◌}
+use Rattle.std.proofs.Common.{◌^◌, ◌<◌, Option, Some, IfSome, ap, ◌∙◌, ◌⊎◌, inl, inr, slice_get}
+use Rattle.places.specs.Lengths.{held_behind, BeginsWithSegment, ChainOf, HasNewer}
 use Rattle.places.proofs.SpanLaws.{byte_stands}
 use Rattle.places.proofs.WalkLaws.{first_one, byte_behind}
 

@@ -1,3 +1,4 @@
+pub mod Words
 pub mod SpanLaws
 pub mod WalkLaws
 pub mod LimitLaws

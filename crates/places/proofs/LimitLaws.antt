@@ -1,12 +1,8 @@
 -- What limits are told by.
-use Rattle.std.proofs.Common.{◌≡◌, ℕ, ◌+◌, ◌<◌, ◌≤◌, List, length, drop, Option, Some, None, IfSome, get_or, refl, ap, sym, ◌∙◌, arith, inl, inr, slice_get}
-use Rattle.std.proofs.lemmas.Option.{slice_get-get_or}
-use Rattle.syntax.specs.Language.{Leaves, byte, u32, ◌⨾◌}
-use Rattle.syntax.specs.Binary.{Section}
-use Rattle.syntax.proofs.Joins.{joined, apart, free_u32, free_byte}
-use Rattle.syntax.proofs.ModuleLaws.{free_section}
+use Rattle.places.proofs.Words.{apart, arith, byte, drop, FirstSection, free_byte, free_section, free_u32, get_or, IsTheOne, joined, Leaves, length, List, None}
+use Rattle.places.proofs.Words.{NoneBegins, refl, Section, slice_get-get_or, sym, u32, ℕ, ◌+◌, ◌≡◌, ◌≤◌, ◌⨾◌}
+use Rattle.std.proofs.Common.{◌<◌, Option, Some, IfSome, ap, ◌∙◌, inl, inr, slice_get}
 use Rattle.places.specs.declared.sizes.Sizes.{Sizes}
-use Rattle.places.specs.Walks.{IsTheOne, NoneBegins, FirstSection}
 use Rattle.places.specs.Told.{told_limits, told_type, HasSizes}
 use Rattle.places.proofs.SpanLaws.{byte_stands}
 use Rattle.places.proofs.WalkLaws.{first_one, none_empty, byte_behind}

@@ -1,11 +1,7 @@
 -- A name is that of one place.
-use Rattle.std.proofs.Common.{◌≡◌, ℕ, ◌+◌, ◌<◌, ◌≤◌, List, [], ◌∷◌, ◌++◌, length, drop, IsUtf8, refl, ap, subst, arith, ◌⊎◌, inl, inr}
-use Rattle.std.proofs.lemmas.List.{length-append}
-use Rattle.syntax.specs.Language.{Leaves, IsPrefixFree, u32, counted, items}
-use Rattle.syntax.specs.Binary.{Section, section}
-use Rattle.syntax.proofs.Joins.{joined, apart, Apart, free_u32, free_counted, free_pair}
-use Rattle.syntax.proofs.ModuleLaws.{free_section}
-use Rattle.places.specs.Walks.{NoneBegins, FirstOf}
+use Rattle.places.proofs.Words.{Apart, apart, arith, counted, drop, FirstOf, free_counted, free_pair, free_section, free_u32, IsPrefixFree, items, joined}
+use Rattle.places.proofs.Words.{Leaves, length, length-append, List, NoneBegins, refl, Section, section, u32, ℕ, [], ◌++◌, ◌+◌, ◌∷◌, ◌≡◌, ◌≤◌}
+use Rattle.std.proofs.Common.{◌<◌, IsUtf8, ap, subst, ◌⊎◌, inl, inr}
 use Rattle.places.specs.Names.{HasParts, naming, ListsName, IsNamedIn, FunctionIsNamed}
 use Rattle.places.proofs.WalkLaws.{Unmet, unmet_none, unmet_more, unmet_first, unmet_end, first_one, GoesOn, either, met_first}
 

@@ -1,15 +1,13 @@
 -- What stands where it was read.
-use Rattle.std.proofs.Common.{◌≡◌, ℕ, ◌+◌, ◌-◌, ◌<◌, ◌≤◌, List, [], ◌∷◌, ◌++◌, length, drop, All, Option, Some, None, IfSome, slice_get, refl, ap, ◌∙◌, arith}
-use Rattle.std.specs.Prelude.{slice_range}
-use Rattle.std.proofs.lemmas.List.{drop_more, length-drop, length-take-le, length-append}
-use Rattle.std.proofs.lemmas.List.Elements.{All-push}
+use Rattle.places.proofs.Words.{All-push, apart, arith, BodyAt, byte, counted, drop, drop_more, get_or_from_slice_get, items, items_none, joined, Language}
+use Rattle.places.proofs.Words.{Leaves, length, length-append, length-drop, List, no_items, None, refl, Section, section, slice_get_within, slice_range}
+use Rattle.places.proofs.Words.{StandsBetween, u32, ℕ, [], ◌++◌, ◌+◌, ◌∷◌, ◌≡◌, ◌≤◌, ◌⨾◌}
+use Rattle.std.proofs.Common.{◌-◌, ◌<◌, All, Option, Some, IfSome, slice_get, ap, ◌∙◌}
+use Rattle.std.proofs.lemmas.List.{length-take-le}
 use Rattle.std.proofs.lemmas.List.Folds.{drop_split}
-use Rattle.std.proofs.lemmas.Option.{slice_get_within, get_or_from_slice_get}
 use Rattle.leb.specs.Spelling.{SpellsUnsigned, StandsAt}
-use Rattle.syntax.specs.Language.{Language, Leaves, exactly, byte, u32, items, counted, ◌⨾◌}
-use Rattle.syntax.specs.Binary.{Section, section}
-use Rattle.syntax.proofs.Joins.{joined, apart, no_items, items_none}
-use Rattle.places.specs.Spans.{StandsBetween, SectionAt, BodyAt}
+use Rattle.syntax.specs.Language.{exactly}
+use Rattle.places.specs.Spans.{SectionAt}
 
 pub stands_joined : {P Q : Language} {bytes : List ℕ} {at mid to : ℕ} → StandsBetween P bytes at mid → StandsBetween Q bytes mid to → StandsBetween (P ⨾ Q) bytes at to
 stands_joined {P} {Q} {bytes} {at} {mid} {to} p q = record {

@@ -1,15 +1,9 @@
 -- A walk comes to one place only.
-use Rattle.std.proofs.Common.{◌≡◌, ℕ, ◌+◌, ◌-◌, ◌<◌, ◌≤◌, List, [], ◌∷◌, ◌++◌, length, drop, All, Option, Some, None, IfNone, refl, ap, sym, ◌∙◌, append-nil, arith, inl, inr, ◌⊎◌, ◌↔◌, Bool, true, false, nat_lt, rules, slice_get}
-use Rattle.std.specs.Prelude.{slice_range, zero, suc, IsTrue}
-use Rattle.std.proofs.lemmas.List.{length-drop, length-append, drop_all}
-use Rattle.std.proofs.lemmas.List.Elements.{All-push}
-use Rattle.std.proofs.lemmas.Bool.{ltb_from_iff}
-use Rattle.syntax.specs.Language.{Language, Leaves, IsPrefixFree, byte, u32, items, counted, ◌⨾◌}
-use Rattle.syntax.specs.Binary.{Section, section}
-use Rattle.syntax.proofs.Joins.{Apart, joined, apart, no_items, items_none, free_u32, free_byte, free_pair}
-use Rattle.syntax.proofs.ModuleLaws.{free_section}
-use Rattle.places.specs.Spans.{FirstSectionAt}
-use Rattle.places.specs.Walks.{IsTheOne, NoneBegins, FirstOf, FirstSection}
+use Rattle.places.proofs.Words.{All-push, Apart, apart, arith, byte, counted, drop, drop_all, FirstOf, FirstSection, FirstSectionAt, free_byte, free_pair}
+use Rattle.places.proofs.Words.{free_section, free_u32, IsPrefixFree, IsTheOne, IsTrue, items, items_none, joined, Language, Leaves, length, length-append}
+use Rattle.places.proofs.Words.{length-drop, List, ltb_from_iff, no_items, None, NoneBegins, refl, rules, Section, section, slice_range, suc, sym, u32, zero, ℕ}
+use Rattle.places.proofs.Words.{[], ◌++◌, ◌+◌, ◌∷◌, ◌≡◌, ◌≤◌, ◌⨾◌}
+use Rattle.std.proofs.Common.{◌-◌, ◌<◌, All, Option, Some, IfNone, ap, ◌∙◌, append-nil, inl, inr, ◌⊎◌, ◌↔◌, Bool, true, false, nat_lt, slice_get}
 use Rattle.places.specs.Told.{BeginsWithCount, NoCount, IsInCount, CutsShort, IsCutShort}
 use Rattle.places.specs.declared.spans.CutShort.{CutShort}
 use Rattle.places.proofs.SpanLaws.{Past, PastOthers, length_between, byte_stands, items_push}

@@ -1,17 +1,12 @@
 -- The contexts of a run stand in their bodies where its marks say, and so each caller at its call.
-use Rattle.reduction.proofs.Words.{◌≡◌, ℕ, zero, suc, ◌+◌, ◌-◌, List, [], ◌∷◌, ◌++◌, length, map, take, drop, Some, refl, sym, ap, ◌∙◌, subst, arith}
-use Rattle.reduction.proofs.Words.{Bool, true, false, ◌==◌, slice_get, if◌then◌else◌, Value, Instr, Br, Token, Contents, FuncType, Func, Code, Done}
-use Rattle.reduction.proofs.Words.{AsBlock, AsLoop, Plain, Structured, If, opening_bracket, Context, Label, Frame, with_locals, receiving, continuing, Move, Goes, Calls, Stuck, next, StaysInBlock}
-use Rattle.reduction.proofs.Words.{Store, value_of, entered, IsDefined, as_operands}
+use Rattle.reduction.proofs.Words.{as_operands, behind_first, behind_instruction, if◌then◌else◌, marks_entered, opening_bracket, operations_to, StaysInBlock, ℕ}
+use Rattle.reduction.proofs.Words.{arith, branched_to, continuing, IsDefined, left_with, operations, receiving, returned_to, slice_get, Structured, with_locals}
+use Rattle.reduction.proofs.Words.{AsBlock, AsLoop, at_code, Called, Calls, Contents, Context, entered, FuncType, HostCall, Inside, length, RunEnd, value_of}
+use Rattle.reduction.proofs.Words.{Bool, Code, Done, drop, false, Frame, Func, Goes, Halt, Instr, Label, List, moved, Plain, Store, Stuck, subst, Token, Value}
+use Rattle.reduction.proofs.Words.{ap, Br, If, map, Move, next, refl, size, Some, suc, sym, take, true, zero, [], ◌++◌, ◌+◌, ◌-◌, ◌==◌, ◌∙◌, ◌∷◌, ◌≡◌}
 use Rattle.syntax.specs.declared.instruction.Token.TheVariants as op
-use Rattle.syntax.specs.Code.{operations, operations_to}
-use Rattle.validate.specs.Targets.{size}
 use Rattle.instance.specs.declared.stack.Site.{Site}
-use Rattle.instance.specs.Stops.{Halt}
-use Rattle.reduction.specs.Step.{left_with, at_code}
-use Rattle.reduction.specs.Run.{HostCall, RunEnd}
-use Rattle.reduction.specs.Stopping.{Mark, Moment, Inside, Called, RunsTo, ends, traps, spent, too_deep, goes, calls, asks, Stopped, moved, branched_to}
-use Rattle.reduction.specs.Stopping.{returned_to, behind_instruction, behind_first, marks_after, marks_entered, sites, stopped_at, halt_at}
+use Rattle.reduction.specs.Stopping.{Mark, Moment, RunsTo, ends, traps, spent, too_deep, goes, calls, asks, Stopped, marks_after, sites, stopped_at, halt_at}
 use Rattle.reduction.specs.Laws.{CallsFunction, AreInCalls}
 use Rattle.reduction.proofs.PlacesGuided.{first_at, behind_code}
 use Rattle.reduction.proofs.Rules.{Reaches, InCall, Jumps, Calling, Opening, StepRule, next_rule}

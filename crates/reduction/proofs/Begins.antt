@@ -1,9 +1,7 @@
 -- What an operation at a place tells of the contexts that stand there.
-use Rattle.reduction.proofs.Words.{◌≡◌, ℕ, List, ◌∷◌, Option, Some, None, [], arith, slice_get, slice_get_past, Value, Instr, Contents, Code, Done, Plain}
-use Rattle.reduction.proofs.Words.{AsBlock, AsLoop, Structured, If, Context, Label, Frame, Body, Place, IsPlaced, Token}
+use Rattle.reduction.proofs.Words.{arith, AsBlock, AsLoop, BlockType, Body, ClosesTo, Code, Contents, Context, Done, Frame, If, Instr, IsPlaced, Label, List}
+use Rattle.reduction.proofs.Words.{None, Option, Place, Plain, slice_get, slice_get_past, Some, Structured, Token, Value, ℕ, [], ◌∷◌, ◌≡◌}
 use Rattle.syntax.specs.declared.instruction.Token.TheVariants as op
-use Rattle.syntax.specs.declared.types.BlockType.{BlockType}
-use Rattle.reduction.specs.Places.{ClosesTo}
 
 -- contexts at this operation, or behind the last one
 pub data Begins : Option Token → List Context → Type 0 where

@@ -1,12 +1,8 @@
 -- A call of a function of a valid module is typed.
-use Rattle.reduction.proofs.Words.{◌≡◌, ℕ, suc, ◌+◌, List, [], ◌∷◌, ◌++◌, length, length-map, map, Some, refl, sym, ap, ◌∙◌, arith, slice_get}
-use Rattle.reduction.proofs.Words.{slice_get_within, ValType, Value, Contents, FuncType, Func, Done, pushed, HasFunctionType, ValidModule, value_of}
-use Rattle.reduction.proofs.Words.{Context, entered, receiving, types_of, IsDefined, code_left, operands_of}
-use Rattle.std.proofs.lemmas.Option.{get_or_from_slice_get, slice_get-map}
-use Rattle.std.specs.Option.{option_map}
-use Rattle.syntax.specs.declared.contents.Import.{Import}
-use Rattle.validate.specs.Typing.{inside, Typed, function_types}
-use Rattle.validate.specs.Valid.{ValidFunc, body_context}
+use Rattle.reduction.proofs.Words.{ap, arith, body_context, code_left, Contents, Context, Done, entered, Func, function_types, FuncType, get_or_from_slice_get}
+use Rattle.reduction.proofs.Words.{HasFunctionType, Import, inside, IsDefined, length, length-map, List, map, operands_of, option_map, pushed, receiving, refl}
+use Rattle.reduction.proofs.Words.{slice_get, slice_get-map, slice_get_within, Some, suc, sym, Typed, types_of, ValidFunc, ValidModule, ValType, Value}
+use Rattle.reduction.proofs.Words.{value_of, ℕ, [], ◌++◌, ◌+◌, ◌∙◌, ◌∷◌, ◌≡◌}
 use Rattle.reduction.specs.Typed.{call_typing, in_label, in_call, outermost, Awaits, Configured}
 use Rattle.reduction.proofs.Lists.{types_of-append, type_of-value_of, pushed-split}
 use Rattle.reduction.proofs.Soundness.{receives}

@@ -1,11 +1,8 @@
 -- A step of an instruction has a charge.
-use Rattle.reduction.proofs.Words.{zero, suc, List, ValType, Value, Contents, Code, Done, Store, Context, Move, Goes, Stuck, next}
-use Rattle.reduction.proofs.Words.{code_left}
-use Rattle.reduction.specs.Step.{Ends}
+use Rattle.reduction.proofs.Words.{Code, code_left, Contents, Context, Done, Ends, Goes, IsCharged, List, Move, next, SoundWithin, Store, Stuck, suc, ValType}
+use Rattle.reduction.proofs.Words.{Value, zero}
 use Rattle.reduction.proofs.Rules.{StepRule, next_rule}
 use Rattle.reduction.proofs.Rules as rule
-use Rattle.reduction.specs.Run.{IsCharged}
-use Rattle.reduction.specs.HeightsTyped.{SoundWithin}
 
 abbrev pub OrStuck : Move → Type 0
 OrStuck (Goes zero s contexts) = ⊥

@@ -1,9 +1,6 @@
 -- What changes of contexts keep: labels, heights, calls, frames and locals.
-use Rattle.reduction.proofs.Words.{◌≡◌, ℕ, suc, ◌+◌, List, [], ◌∷◌, ◌++◌, length, refl, ap, arith, Value, Code, Done, Context, Label, Frame, locals_of}
-use Rattle.reduction.proofs.Words.{with_locals, going_on, receiving, continuing, operands_of, code_left, height_of}
-use Rattle.reduction.specs.Configuration.{frames}
-use Rattle.reduction.specs.Heights.{labels_of, beneath_call}
-use Rattle.reduction.specs.Places.{call_of}
+use Rattle.reduction.proofs.Words.{ap, arith, beneath_call, call_of, Code, code_left, Context, continuing, Done, Frame, frames, going_on, height_of, Label}
+use Rattle.reduction.proofs.Words.{labels_of, length, List, locals_of, operands_of, receiving, refl, suc, Value, with_locals, ℕ, [], ◌++◌, ◌+◌, ◌∷◌, ◌≡◌}
 use Rattle.reduction.proofs.Rules.{Reaches, InCall}
 use Rattle.reduction.proofs.Rules as rule
 

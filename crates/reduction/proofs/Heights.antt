@@ -1,22 +1,16 @@
 -- A typed sequence within the limits of height and nesting takes so many operands to so many.
-use Rattle.reduction.proofs.Words.{◌≡◌, ℕ, ◌+◌, ◌-◌, ◌≤◌, List, [], ◌∷◌, ◌++◌, length, map, Some, refl, ap, ◌∙◌, arith, length-append, slice_get}
-use Rattle.reduction.proofs.Words.{length-map, ValType, Instr, Br, BrIf, BrTable, Contents, FuncType, Code, Done, Plain, Structured, If, pushed, label_types}
-use Rattle.reduction.proofs.Words.{type_of, HasFunctionType, type_of_function}
-use Rattle.std.proofs.Common.{max}
-use Rattle.std.specs.Option.{option_map}
-use Rattle.std.proofs.lemmas.Option.{slice_get-map}
+use Rattle.reduction.proofs.Words.{ap, arith, Br, BrIf, BrTable, Call, CallIndirect, Code, Contents, Conversion, Counted, counts, Done, FitsHeights, Follows}
+use Rattle.reduction.proofs.Words.{FuncType, HasFunctionType, I32WrapI64, I64ExtendI32S, I64ExtendI32U, If, inside, Instr, label_types, length, length-append}
+use Rattle.reduction.proofs.Words.{length-map, List, LocalGet, LocalSet, LocalTee, map, max, MAX_HEIGHT, MemoryGrow, MemorySize, option_map, Plain, pushed}
+use Rattle.reduction.proofs.Words.{refl, Return, Select, slice_get, slice_get-map, Some, StoreNarrow, Structured, type_of, type_of_function, Typed, Unary}
+use Rattle.reduction.proofs.Words.{Unreachable, ValType, ℕ, [], ◌++◌, ◌+◌, ◌-◌, ◌∙◌, ◌∷◌, ◌≡◌, ◌≤◌}
 use Rattle.std.proofs.Math.Nat.{le-max_left, le-max_right}
-use Rattle.limits.specs.declared.TheConstants.{MAX_HEIGHT, MAX_NESTING}
+use Rattle.limits.specs.declared.TheConstants.{MAX_NESTING}
 use Rattle.syntax.specs.declared.types.ValType.TheVariants as type
-use Rattle.syntax.specs.declared.operator.Conversion.{Conversion}
-use Rattle.syntax.specs.declared.operator.Conversion.TheVariants.{I32WrapI64, I64ExtendI32S, I64ExtendI32U}
-use Rattle.syntax.specs.declared.instruction.Instr.TheVariants.{Unreachable, Nop, Return, Call, CallIndirect, Drop, Select, LocalGet, LocalSet, LocalTee}
-use Rattle.syntax.specs.declared.instruction.Instr.TheVariants.{GlobalGet, GlobalSet, Load, LoadNarrow, Store, StoreNarrow, MemorySize, MemoryGrow, Const, Eqz}
-use Rattle.syntax.specs.declared.instruction.Instr.TheVariants.{Unary, Binary, Compare, Convert}
-use Rattle.validate.specs.Typing.{Context, inside, TakesLeaves, ConversionTurns, InstrTyped, Typed}
+use Rattle.syntax.specs.declared.instruction.Instr.TheVariants.{Nop, Drop, GlobalGet, GlobalSet, Load, LoadNarrow, Store, Const, Eqz, Binary, Compare, Convert}
+use Rattle.validate.specs.Typing.{Context, TakesLeaves, ConversionTurns, InstrTyped}
 use Rattle.validate.specs.Height.{Effect, Changes, Ends, effect_of, after_effect, greatest_height, nesting}
 use Rattle.validate.proofs.Checks.{all_there}
-use Rattle.reduction.specs.Heights.{FitsHeights, counts, Follows, Counted}
 use Rattle.reduction.proofs.Lists.{length-pushed}
 
 -- by how many operands a branch to each label takes along

@@ -1,12 +1,10 @@
 -- No step opens a call by itself.
+use Rattle.reduction.proofs.Words.{arith, Arrives, as_operands, asks, Calls, calls, Code, Contents, Context, drop, frames, Goes, goes, here, IsReached, length}
+use Rattle.reduction.proofs.Words.{List, Move, next, take, Value, with_locals, ℕ, ◌<◌, ◌∷◌, ◌≤◌}
 use Rattle.reduction.proofs.Contexts.{frames-going, frames-locals, frames-receiving, frames-continuing, frames-reached, frames-in_call}
-use Rattle.reduction.proofs.Words.{ℕ, ◌<◌, ◌≤◌, List, ◌∷◌, length, take, drop, arith, Value, Contents, Code, Context}
-use Rattle.reduction.proofs.Words.{with_locals, Move, Goes, Calls, next, as_operands}
 use Rattle.instance.specs.Store.{Store as Memory_and_globals}
-use Rattle.reduction.specs.Configuration.{frames}
 use Rattle.reduction.proofs.Rules.{Reaches, InCall, StepRule, next_rule}
 use Rattle.reduction.proofs.Rules as rule
-use Rattle.reduction.specs.HeightsOfRuns.{Arrives, here, goes, calls, asks, IsReached}
 
 -- a step leads to so many calls at most
 abbrev pub Opens : (most : ℕ) → Move → Type 0

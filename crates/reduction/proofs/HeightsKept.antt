@@ -1,14 +1,12 @@
 -- Each step keeps the contexts within the limits of the bodies that they run.
+use Rattle.reduction.proofs.Words.{ap, arith, AsBlock, AsLoop, Beneath, beneath_call, Calls, Code, code_left, Contents, Context, Counted, counts, Done, drop}
+use Rattle.reduction.proofs.Words.{Follows, Frame, FuncType, Goes, GoesOn, going_on, Instr, IsWithin, Label, labels_of, length, length-append, length-drop}
+use Rattle.reduction.proofs.Words.{length-map, length-take-le, List, locals_of, MAX_HEIGHT, Move, next, None, operands_of, Option, receiving, refl, reverse}
+use Rattle.reduction.proofs.Words.{slice_get, Some, Structured, subst, suc, sym, take, type_of, type_of_function, ValType, Value, with_locals, zero, ℕ, []}
+use Rattle.reduction.proofs.Words.{◌++◌, ◌+◌, ◌∙◌, ◌∷◌, ◌≡◌, ◌≤◌}
 use Rattle.reduction.proofs.Contexts.{with_locals-labels, with_locals-base, with_locals-operands, with_locals-code, receiving-is, continuing-is}
-use Rattle.reduction.proofs.Words.{◌≡◌, ℕ, zero, suc, ◌+◌, ◌≤◌, List, [], ◌∷◌, ◌++◌, length, take, drop, reverse, Option, Some, None, refl, sym, ap}
-use Rattle.reduction.proofs.Words.{◌∙◌, subst, arith, length-append, slice_get, length-map, type_of, type_of_function, ValType, Value, Instr}
-use Rattle.reduction.proofs.Words.{Contents, FuncType, Code, AsBlock, AsLoop, Done, Structured, Context, Label, Frame, locals_of, with_locals, going_on, receiving}
-use Rattle.reduction.proofs.Words.{Move, Goes, Calls, next, code_left, operands_of}
-use Rattle.std.proofs.Common.{length-drop}
-use Rattle.std.proofs.lemmas.List.{length-take-le}
-use Rattle.limits.specs.declared.TheConstants.{MAX_HEIGHT}
 use Rattle.instance.specs.Store.{Store as Memory_and_globals}
-use Rattle.reduction.specs.Heights.{GoesOn, tests, counts, Follows, Counted, labels_of, beneath_call, Beneath, IsWithin}
+use Rattle.reduction.specs.Heights.{tests}
 use Rattle.reduction.proofs.PlainStepHeights.{as_many}
 use Rattle.reduction.proofs.Rules.{Reaches, InCall, Calling, Opening, StepRule, next_rule}
 use Rattle.reduction.proofs.Rules as rule

@@ -1,16 +1,11 @@
 -- A call of a function of a valid module begins within the limits, and its run stays within them.
-use Rattle.reduction.proofs.Words.{◌≡◌, ℕ, ◌+◌, ◌≤◌, List, [], ◌∷◌, ◌++◌, length, map, Option, Some, None, refl, sym, ap, ◌∙◌, subst, arith}
-use Rattle.reduction.proofs.Words.{length-append, slice_get, length-map, slice_get_within, ValType, Value, Contents, FuncType, Func, Done, pushed}
-use Rattle.reduction.proofs.Words.{type_of, HasFunctionType, type_of_function, ValidModule, Store, value_of, Context, Frame, entered, receiving}
-use Rattle.reduction.proofs.Words.{types_of, Move, Calls, next, as_operands, IsDefined}
+use Rattle.reduction.proofs.Words.{ap, arith, Arrives, as_operands, asks, Beneath, body_context, Calls, calls, Contents, Context, Counted, Done, entered, Frame}
+use Rattle.reduction.proofs.Words.{Func, function_types, FuncType, get_or_from_slice_get, goes, HasFunctionType, here, IsDefined, IsReached, IsWithin, length}
+use Rattle.reduction.proofs.Words.{length-append, length-map, List, map, MAX_LOCALS, Move, next, None, Option, pushed, receiving, refl, slice_get}
+use Rattle.reduction.proofs.Words.{slice_get_within, Some, Store, subst, sym, type_of, type_of_function, types_of, ValidFunc, ValidModule, ValType, Value}
+use Rattle.reduction.proofs.Words.{value_of, ℕ, [], ◌++◌, ◌+◌, ◌∙◌, ◌∷◌, ◌≡◌, ◌≤◌}
 use Rattle.std.proofs.Common.{option_and_then}
-use Rattle.std.proofs.lemmas.Option.{get_or_from_slice_get}
-use Rattle.limits.specs.declared.TheConstants.{MAX_LOCALS}
-use Rattle.validate.specs.Typing.{function_types}
-use Rattle.validate.specs.Valid.{ValidFunc, body_context}
 use Rattle.reduction.specs.Hosting.{Answers}
-use Rattle.reduction.specs.Heights.{Counted, Beneath, IsWithin}
-use Rattle.reduction.specs.HeightsOfRuns.{Arrives, here, goes, calls, asks, IsReached}
 use Rattle.reduction.proofs.Lists.{length-pushed}
 use Rattle.reduction.proofs.CallsAreTyped.{valid_function, defined_type}
 use Rattle.reduction.proofs.Heights.{counted}

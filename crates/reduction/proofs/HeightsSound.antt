@@ -1,14 +1,9 @@
 -- Soundness with the limits: a step of typed contexts within them leads to such contexts.
+use Rattle.reduction.proofs.Words.{ap, arith, AwaitsWithin, Bounded, Calls, Contents, Context, Ends, entered, frames, Func, FuncType, Goes, HaveGlobalTypes}
+use Rattle.reduction.proofs.Words.{IsDefined, IsWithin, length, length-map, List, Move, next, pushed, receiving, Some, SoundWithin, Store, Stuck, sym, Traps}
+use Rattle.reduction.proofs.Words.{type_of, types_of, ValidModule, ValType, Value, ℕ, [], ◌<◌, ◌∙◌, ◌∷◌, ◌≡◌, ◌≤◌}
 use Rattle.reduction.proofs.Contexts.{frames-receiving}
-use Rattle.reduction.proofs.Words.{◌≡◌, ℕ, ◌<◌, ◌≤◌, List, [], ◌∷◌, length, Some, sym, ap, ◌∙◌, arith, length-map, ValType, Value, Contents}
-use Rattle.reduction.proofs.Words.{FuncType, Func, pushed, type_of, ValidModule, Store, Context, entered, receiving}
-use Rattle.reduction.proofs.Words.{types_of, Move, Goes, Traps, Calls, Stuck, next, IsDefined, Bounded}
-use Rattle.instance.specs.Storing.{HaveGlobalTypes}
-use Rattle.reduction.specs.Configuration.{frames}
-use Rattle.reduction.specs.Step.{Ends}
 use Rattle.reduction.specs.Typed.{Sound}
-use Rattle.reduction.specs.Heights.{IsWithin}
-use Rattle.reduction.specs.HeightsTyped.{AwaitsWithin, SoundWithin}
 use Rattle.reduction.proofs.Lists.{length-pushed}
 use Rattle.reduction.proofs.Soundness.{sound, type_of_function-is}
 use Rattle.reduction.proofs.CallsAreTyped.{enters_call, starts_call, answers_call}

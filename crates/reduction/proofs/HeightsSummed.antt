@@ -1,11 +1,8 @@
 -- The operands, the contexts and the locals of contexts within the limits.
+use Rattle.reduction.proofs.Words.{arith, Beneath, beneath_call, Code, code_left, Contents, Context, Counted, Done, FitsHeights, Frame, frames, GoesOn}
+use Rattle.reduction.proofs.Words.{height_of, IsWithin, Label, labels_of, length, length-append, List, MAX_HEIGHT, MAX_LOCALS, operands_of, suc, ℕ, [], ◌*◌}
+use Rattle.reduction.proofs.Words.{◌+◌, ◌∷◌, ◌≤◌}
 use Rattle.reduction.proofs.Contexts.{height-parts}
-use Rattle.reduction.proofs.Words.{ℕ, suc, ◌+◌, ◌≤◌, List, [], ◌∷◌, length, arith, length-append, Contents, Code, Done, Context}
-use Rattle.reduction.proofs.Words.{Label, Frame, code_left, operands_of, height_of}
-use Rattle.std.proofs.Common.{◌*◌}
-use Rattle.limits.specs.declared.TheConstants.{MAX_HEIGHT, MAX_LOCALS}
-use Rattle.reduction.specs.Configuration.{frames}
-use Rattle.reduction.specs.Heights.{FitsHeights, Counted, labels_of, beneath_call, GoesOn, Beneath, IsWithin}
 use Rattle.reduction.specs.HeightsOfRuns.{all_operands, all_locals}
 
 fits_of : (m : Contents) (labels : List ℕ) (base before after : ℕ) (code : Code) → Counted m labels base before after code → FitsHeights labels base before

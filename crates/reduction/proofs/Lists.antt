@@ -1,13 +1,10 @@
 -- Lists of values and of their types.
-use Rattle.reduction.proofs.Words.{◌≡◌, ℕ, zero, suc, ◌+◌, ◌≤◌, List, [], ◌∷◌, ◌++◌, length, take, drop, reverse, Option, Some, None, refl, sym}
-use Rattle.reduction.proofs.Words.{ap, ◌∙◌, subst, true, nat_le, arith, slice_get, slice_set, slice_get_within, ValType, Value, I32, I64, pushed}
-use Rattle.reduction.proofs.Words.{type_of, value_of, types_of}
-use Rattle.std.specs.Prelude.{All}
-use Rattle.std.proofs.lemmas.Option.{get_or_from_slice_get}
+use Rattle.reduction.proofs.Words.{All, ap, arith, drop, get_or_from_slice_get, I32, I64, is_of, label_for, length, List, nat_le, None, Option, pushed, refl}
+use Rattle.reduction.proofs.Words.{reverse, slice_get, slice_get_within, slice_set, Some, subst, suc, sym, take, true, type_of, types_of, ValType, Value}
+use Rattle.reduction.proofs.Words.{value_of, zero, ℕ, [], ◌++◌, ◌+◌, ◌∙◌, ◌∷◌, ◌≡◌, ◌≤◌}
 use Rattle.std.proofs.lemmas.Grind.{common_steps}
 use Rattle.std.proofs.lemmas.List.{reverse-append}
 use Rattle.syntax.specs.declared.types.ValType.TheVariants as type
-use Rattle.reduction.specs.Step.{is_of, label_for}
 
 pub at_most_test : (a b : ℕ) → a ≤ b → nat_le a b ≡ true
 at_most_test a b h = grind (arith, common_steps)

@@ -1,12 +1,8 @@
 -- Two calls of a function from outside, from one start.
-use Rattle.reduction.proofs.Words.{◌≡◌, ℕ, List, [], ◌∷◌, reverse, refl, sym, ap, ◌∙◌, Value, Contents, Store, entered, as_operands}
-use Rattle.std.proofs.Common.{Option, get_or}
-use Rattle.instance.specs.Stops.{Halt}
+use Rattle.reduction.proofs.Words.{ap, as_operands, Contents, defined, entered, Halt, HostCall, imported, Invokes, IsDetermined, Lawful, List, Option}
+use Rattle.reduction.proofs.Words.{OutOfFuel, refl, Returned, reverse, RunEnd, Store, sym, TooDeep, Trapped, Value, with_memory, ℕ, [], ◌∙◌, ◌∷◌, ◌≡◌}
+use Rattle.std.proofs.Common.{get_or}
 use Rattle.std.proofs.lemmas.List.{reverse-reverse}
-use Rattle.instance.specs.Store.{with_memory}
-use Rattle.reduction.specs.Run.{HostCall, RunEnd, Returned, Trapped, TooDeep, OutOfFuel}
-use Rattle.reduction.specs.Hosting.{Lawful, IsDetermined}
-use Rattle.reduction.specs.Invoking.{Invokes, defined, imported}
 use Rattle.reduction.specs.Leading.{Call, Leads, scene}
 use Rattle.reduction.specs.Running.{end_of_run}
 use Rattle.events.specs.Traps.{trap_number}

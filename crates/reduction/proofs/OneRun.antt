@@ -1,12 +1,8 @@
 -- Two runs from one start.
-use Rattle.reduction.proofs.Words.{◌≡◌, ℕ, zero, suc, ◌+◌, ◌<◌, ◌≤◌, List, [], ◌∷◌, Some, refl, sym, ap, ◌∙◌, arith, slice_get, Value, Contents}
-use Rattle.reduction.proofs.Words.{FuncType, Func, Store, Context, entered, receiving, Move, Goes, Traps, Calls, next, IsDefined, as_operands}
-use Rattle.instance.specs.Store.{with_memory}
-use Rattle.reduction.specs.Configuration.{frames}
-use Rattle.reduction.specs.Step.{Ends}
-use Rattle.reduction.specs.Run.{HostCall, RunEnd, Returned, Trapped, TooDeep, OutOfFuel, IsImported, IsCharged, Run, ends, traps, spent, too_deep, goes}
-use Rattle.reduction.specs.Run.{calls, asks, RunsWithin}
-use Rattle.reduction.specs.Hosting.{Lawful, IsDetermined}
+use Rattle.reduction.proofs.Words.{ap, arith, as_operands, Calls, Contents, Context, Ends, entered, frames, Func, FuncType, Goes, HostCall, IsCharged}
+use Rattle.reduction.proofs.Words.{IsDefined, IsDetermined, IsImported, Lawful, List, Move, next, OutOfFuel, receiving, refl, Returned, Run, RunEnd, slice_get}
+use Rattle.reduction.proofs.Words.{Some, Store, suc, sym, TooDeep, Trapped, Traps, Value, with_memory, zero, ℕ, [], ◌+◌, ◌<◌, ◌∙◌, ◌∷◌, ◌≡◌, ◌≤◌}
+use Rattle.reduction.specs.Run.{ends, traps, spent, too_deep, goes, calls, asks, RunsWithin}
 
 -- a function is defined by one type and one body
 pub one_function : (m : Contents) (function : ℕ) (type type' : FuncType) (f f' : Func) → IsDefined m function type f → IsDefined m function type' f' → (type ≡ type') × (f ≡ f')

@@ -1,17 +1,9 @@
 -- From one start a run with the same calls of the host, the same ending and the same use stops at one place.
-use Rattle.std.proofs.Common.{◌≡◌, ℕ, ◌+◌, ◌<◌, ◌≤◌, List, [], ◌∷◌, Option, Some, refl, sym, ap, ◌∙◌, arith}
-use Rattle.syntax.specs.declared.types.Value.{Value}
-use Rattle.syntax.specs.declared.contents.Contents.{Contents}
-use Rattle.syntax.specs.declared.contents.FuncType.{FuncType}
-use Rattle.syntax.specs.declared.contents.Func.{Func}
-use Rattle.instance.specs.Store.{Store, with_memory}
-use Rattle.reduction.specs.Configuration.{Context, entered, frames, receiving}
-use Rattle.reduction.specs.Step.{Move, Goes, Traps, Calls, Ends, next}
+use Rattle.reduction.proofs.Words.{ap, arith, as_operands, Calls, Contents, Context, Ends, entered, frames, Func, FuncType, Goes, Halt, HostCall, IsCharged}
+use Rattle.reduction.proofs.Words.{IsDefined, IsImported, List, marks_entered, Move, next, Option, OutOfFuel, receiving, refl, Returned, Run, RunEnd, Some}
+use Rattle.reduction.proofs.Words.{Store, sym, TooDeep, Trapped, Traps, Value, with_memory, ℕ, [], ◌+◌, ◌<◌, ◌∙◌, ◌∷◌, ◌≡◌, ◌≤◌}
 use Rattle.reduction.specs.Run as run
-use Rattle.reduction.specs.Run.{HostCall, RunEnd, Run, Returned, Trapped, TooDeep, OutOfFuel, IsCharged, IsDefined, IsImported, as_operands}
-use Rattle.reduction.specs.Stopping.{Mark, Moment, RunsTo, ends, traps, spent, too_deep, goes, calls, asks, marks_after, marks_entered}
-use Rattle.reduction.specs.Stopping.{Stopped, StopsAt, halt_at}
-use Rattle.instance.specs.Stops.{Halt}
+use Rattle.reduction.specs.Stopping.{Mark, Moment, RunsTo, ends, traps, spent, too_deep, goes, calls, asks, marks_after, Stopped, StopsAt, halt_at}
 use Rattle.events.specs.declared.ended.Ending.{Ending}
 use Rattle.events.specs.declared.ended.Ending.TheVariants as how
 use Rattle.reduction.proofs.OneRun.{not_both, one_function, some_charge}

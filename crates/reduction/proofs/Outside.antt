@@ -1,12 +1,10 @@
 -- Calls of imported functions from outside.
-use Rattle.reduction.proofs.Words.{◌≡◌, ℕ, List, [], ◌∷◌, length, reverse, Some, None, refl, sym, ap, ◌∙◌, slice_get, Value, Contents, FuncType}
-use Rattle.reduction.proofs.Words.{HasFunctionType, type_of_function, pushed, Store, IsStoreOf, as_operands, types_of}
-use Rattle.std.specs.Prelude.{Option}
+use Rattle.reduction.proofs.Words.{ap, as_operands, Contents, FuncType, HasFunctionType, HostCall, imported, IsImported, IsStoreOf, length, List, None, Option}
+use Rattle.reduction.proofs.Words.{pushed, refl, reverse, slice_get, Some, Store, sym, type_of_function, types_of, Value, ℕ, [], ◌∙◌, ◌∷◌, ◌≡◌}
 use Rattle.instance.specs.Store.{with_memory_instance, MemoryInstance}
 use Rattle.events.specs.declared.ended.Ending.TheVariants.{Return}
-use Rattle.reduction.specs.Run.{HostCall, IsImported}
 use Rattle.reduction.specs.Hosting.{Names, Answers}
-use Rattle.reduction.specs.Invoking.{imported, TakesArguments}
+use Rattle.reduction.specs.Invoking.{TakesArguments}
 use Rattle.reduction.specs.Leading.{Leads, calling, scene}
 use Rattle.reduction.proofs.Lists.{in_order}
 use Rattle.reduction.proofs.Stores.{with_memory_of}

@@ -1,19 +1,13 @@
 -- What the table tells of a branch is what the rules of branches do: to which place it goes, how many operands it takes
 -- along, and on top of how many of the same call.
+use Rattle.reduction.proofs.Words.{append_assoc, branched, Contents, continuing, height_of, I32, label_for, length-take-le, on_contexts, operands_of, slice_get}
+use Rattle.reduction.proofs.Words.{arith, Body, BrTable, Context, Frame, Instr, IsPlaced, Label, length, min, Option, Place, plain, Store, Target, Tells, Value}
+use Rattle.reduction.proofs.Words.{ap, Br, BrIf, Code, drop, Goes, List, next, Over, refl, Some, suc, sym, take, ℕ, [], ◌++◌, ◌+◌, ◌-◌, ◌∙◌, ◌∷◌, ◌≡◌, ◌≤◌}
 use Rattle.reduction.proofs.Contexts.{height-parts, call-continuing, call-reached, locals-continuing, locals-reached}
 use Rattle.reduction.proofs.Begins.{Begins, begins_with}
 use Rattle.reduction.proofs.Begins as at_place
-use Rattle.reduction.proofs.Words.{◌≡◌, ℕ, suc, ◌+◌, ◌-◌, ◌≤◌, List, [], ◌∷◌, ◌++◌, length, take, drop, Option, Some, refl, sym, ap, ◌∙◌, arith}
-use Rattle.reduction.proofs.Words.{slice_get, append_assoc, Value, I32, Instr, Br, BrIf, BrTable, Contents, Code}
-use Rattle.reduction.proofs.Words.{Target, Store, Context, Label, Frame, continuing, Goes, next, operands_of, height_of, Body}
-use Rattle.reduction.proofs.Words.{Place, Over, IsPlaced}
-use Rattle.std.proofs.Common.{min}
-use Rattle.std.proofs.lemmas.List.{length-take-le}
 use Rattle.std.proofs.Math.Seq.{drop-append-add}
 use Rattle.syntax.specs.declared.instruction.Token.TheVariants as op
-use Rattle.validate.specs.Targets.{Tells}
-use Rattle.reduction.specs.Configuration.{branched}
-use Rattle.reduction.specs.Step.{plain, on_contexts, label_for}
 use Rattle.reduction.specs.HeightsOfRuns.{all_operands}
 use Rattle.reduction.specs.Places.{Cuts, BranchesTo}
 use Rattle.reduction.proofs.PlacesKept.{listed, continues}

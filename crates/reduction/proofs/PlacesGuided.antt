@@ -1,15 +1,11 @@
 -- A typed body with which its side table agrees stands in its operations as the table tells.
-use Rattle.reduction.proofs.Words.{◌≡◌, ℕ, zero, suc, ◌+◌, ◌-◌, List, [], ◌∷◌, length, drop, Some, sym, ap, ◌∙◌, subst, arith, slice_get, ValType}
-use Rattle.reduction.proofs.Words.{Token, Code, Done, Plain, Structured, If, opening_bracket, led_by, label_types, pushed, Target, Body}
-use Rattle.std.proofs.Common.{max}
+use Rattle.reduction.proofs.Words.{Agrees, ap, arith, Body, ClosesTo, Code, counts, Done, drop, Follows, Guided, If, inside, keeps, label_types, led_by, length}
+use Rattle.reduction.proofs.Words.{List, max, opening_bracket, operations_to, Plain, pushed, size, slice_get, Some, Structured, subst, suc, sym, Target, Token}
+use Rattle.reduction.proofs.Words.{Typed, ValType, zero, ℕ, [], ◌+◌, ◌-◌, ◌∙◌, ◌∷◌, ◌≡◌}
 use Rattle.syntax.specs.declared.instruction.Token.TheVariants as op
-use Rattle.syntax.specs.Code.{operations_to}
-use Rattle.validate.specs.Typing.{Context, inside, Typed}
+use Rattle.validate.specs.Typing.{Context}
 use Rattle.validate.specs.Height.{Effect, Changes, Ends, effect_of, after_effect}
-use Rattle.validate.specs.Targets.{size, Agrees}
 use Rattle.validate.specs.Inner.Writing.{target}
-use Rattle.reduction.specs.Heights.{counts, Follows}
-use Rattle.reduction.specs.Places.{keeps, ClosesTo, Guided}
 use Rattle.reduction.proofs.Lists.{length-pushed}
 use Rattle.reduction.proofs.Heights.{Agrees as SameEffect, agrees, arities}
 

@@ -1,16 +1,14 @@
 -- Each step leads the calls to the places that the operations and the side tables tell.
+use Rattle.reduction.proofs.Words.{ap, arith, AsBlock, AsLoop, at_code, Body, Bool, Br, chosen, ClosesTo, Code, code_left, Contents, Context, continuing, Done}
+use Rattle.reduction.proofs.Words.{drop, false, Frame, FuncType, Goes, going_on, Guided, height_of, if◌then◌else◌, Instr, IsPlaced, jumped, keeps, Label}
+use Rattle.reduction.proofs.Words.{label_for, left_with, length, length-append, length-drop, length-take-le, List, min, Move, next, None, operands_of, Option}
+use Rattle.reduction.proofs.Words.{Over, pc_of, Place, receiving, refl, size, slice_get, slice_get_past, Some, StaysInBlock, stepped, Stuck, subst, suc, sym}
+use Rattle.reduction.proofs.Words.{take, Target, Tells, Token, true, Value, with_locals, zero, ℕ, [], ◌++◌, ◌+◌, ◌==◌, ◌∙◌, ◌∷◌, ◌≡◌}
 use Rattle.reduction.proofs.Contexts.{with_locals-height, with_locals-code}
-use Rattle.reduction.proofs.Words.{◌≡◌, ℕ, zero, suc, ◌+◌, List, [], ◌∷◌, ◌++◌, length, take, drop, Option, Some, None, refl, sym, ap, ◌∙◌, subst, true}
-use Rattle.reduction.proofs.Words.{false, Bool, arith, length-append, ◌==◌, slice_get, if◌then◌else◌, Value, Instr, Br, Token}
-use Rattle.reduction.proofs.Words.{Contents, FuncType, Code, AsBlock, AsLoop, Done, Target, Context, Label, Frame, with_locals, going_on, receiving, continuing}
-use Rattle.reduction.proofs.Words.{slice_get_past, Move, Goes, Stuck, next, code_left, operands_of, height_of, Body, Place, Over, IsPlaced, StaysInBlock}
-use Rattle.std.proofs.Common.{min, length-drop}
-use Rattle.std.proofs.lemmas.List.{length-take-le}
 use Rattle.syntax.specs.declared.instruction.Token.TheVariants as op
-use Rattle.validate.specs.Targets.{pc_of, size, Lists, Tells}
+use Rattle.validate.specs.Targets.{Lists}
 use Rattle.instance.specs.Store.{Store as Memory_and_globals}
-use Rattle.reduction.specs.Step.{at_code, label_for, left_with, chosen}
-use Rattle.reduction.specs.Places.{keeps, ClosesTo, Guided, GoesOn, jumped, stepped, LeadsOn}
+use Rattle.reduction.specs.Places.{GoesOn, LeadsOn}
 use Rattle.reduction.proofs.HeightsKept.{tested, called, found}
 use Rattle.reduction.proofs.Rules.{Reaches, InCall, Jumps, Calling, Opening, StepRule, next_rule}
 use Rattle.reduction.proofs.Rules as rule

@@ -1,14 +1,10 @@
 -- The calls of a run stand at places that the side tables tell.
-use Rattle.reduction.proofs.Words.{◌≡◌, ℕ, ◌+◌, List, [], ◌∷◌, ◌++◌, length, map, Some, refl, ap, arith, slice_get, length-map, Value}
-use Rattle.reduction.proofs.Words.{Token, Contents, FuncType, Func, Code, Done, Plain, Structured, If, pushed, type_of, ValidModule, Target, Store}
-use Rattle.reduction.proofs.Words.{value_of, Context, Frame, entered, receiving, types_of, Move, Calls, next, as_operands, IsDefined, operands_of, Body}
-use Rattle.reduction.proofs.Words.{Place, Over, IsPlaced, AreBodies}
+use Rattle.reduction.proofs.Words.{ap, AreBodies, arith, Arrives, as_operands, asks, Body, body_context, Calls, calls, Code, Contents, Context, Done, entered}
+use Rattle.reduction.proofs.Words.{Frame, Func, FuncType, goes, Guided, here, If, IsDefined, IsPlaced, IsReached, length, length-map, length-operations, List}
+use Rattle.reduction.proofs.Words.{map, Move, next, operands_of, Over, Place, Plain, pushed, receiving, refl, size, slice_get, Some, stepped, Store, Structured}
+use Rattle.reduction.proofs.Words.{Target, Token, type_of, types_of, ValidModule, Value, value_of, ℕ, [], ◌++◌, ◌+◌, ◌∷◌, ◌≡◌}
 use Rattle.syntax.specs.declared.instruction.Token.TheVariants as op
-use Rattle.validate.specs.Valid.{body_context}
-use Rattle.validate.specs.Targets.{size}
-use Rattle.validate.proofs.Tables.{length-operations}
-use Rattle.reduction.specs.HeightsOfRuns.{Arrives, here, goes, calls, asks, IsReached}
-use Rattle.reduction.specs.Places.{Guided, stepped, ArePlaced, LeadsOn}
+use Rattle.reduction.specs.Places.{ArePlaced, LeadsOn}
 use Rattle.reduction.proofs.Lists.{length-pushed}
 use Rattle.reduction.proofs.CallsAreTyped.{valid_function, body_typed}
 use Rattle.reduction.proofs.HeightsOfRuns.{same_type}

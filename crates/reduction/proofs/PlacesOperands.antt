@@ -1,14 +1,12 @@
 -- Operands of a call and beneath it: a step of a block leaves the calls beneath, and what begins or ends a block moves no operand.
+use Rattle.reduction.proofs.Words.{append_assoc, beneath_call, call_of, Contents, Context, height_of, length, length-append, operands_of, Target, with_locals}
+use Rattle.reduction.proofs.Words.{ap, arith, Code, drop, Frame, Label, List, Move, next, refl, sym, take, Value, ℕ, [], ◌++◌, ◌+◌, ◌-◌, ◌∙◌, ◌∷◌, ◌≡◌, ◌≤◌}
 use Rattle.reduction.proofs.Contexts.{height-parts, call-going, call-locals, call-receiving, call-continuing, call-reached, call-in}
-use Rattle.reduction.proofs.Words.{◌≡◌, ℕ, ◌+◌, ◌-◌, ◌≤◌, List, [], ◌∷◌, ◌++◌, length, take, drop, refl, sym, ap, ◌∙◌, arith, length-append}
-use Rattle.reduction.proofs.Words.{append_assoc, Value, Contents, Code, Context, Label, Frame, with_locals, Move}
-use Rattle.reduction.proofs.Words.{next, Target, operands_of, height_of}
 use Rattle.std.proofs.lemmas.List.{take-append-le}
 use Rattle.std.proofs.Math.Seq.{drop-append_seam, drop-append-add}
 use Rattle.instance.specs.Store.{Store as Memory_and_globals}
-use Rattle.reduction.specs.Heights.{beneath_call}
 use Rattle.reduction.specs.HeightsOfRuns.{all_operands}
-use Rattle.reduction.specs.Places.{Cuts, call_of, StaysIn, cut}
+use Rattle.reduction.specs.Places.{Cuts, StaysIn, cut}
 use Rattle.reduction.proofs.Rules.{StepRule, next_rule}
 use Rattle.reduction.proofs.Rules as rule
 

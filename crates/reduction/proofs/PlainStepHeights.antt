@@ -1,10 +1,9 @@
 -- How many operands and locals an instruction leaves that neither branches nor calls.
-use Rattle.reduction.proofs.Words.{◌≡◌, ℕ, ◌+◌, List, length, refl, ap, ◌∙◌, arith, length-append, Value, Instr, Contents, PlainStep, Leaves, Fails, Lacks}
+use Rattle.reduction.proofs.Words.{ap, arith, Contents, counts, Fails, Instr, Lacks, Leaves, length, length-append, List, plain_step, PlainStep, refl, Value, ℕ}
+use Rattle.reduction.proofs.Words.{◌+◌, ◌∙◌, ◌≡◌}
 use Rattle.std.proofs.lemmas.List.{length-set}
 use Rattle.validate.specs.Height.{Effect, Changes, Ends}
 use Rattle.instance.specs.Store.{Store as Memory_and_globals}
-use Rattle.reduction.specs.Step.{plain_step}
-use Rattle.reduction.specs.Heights.{counts}
 use Rattle.reduction.proofs.PlainStepView.{LocalsLeft, same_locals, local_set, PlainStepView, plain_step_view}
 
 -- the operands behind an effect

@@ -1,20 +1,13 @@
 -- What an instruction leaves that neither branches nor calls: the one walk over these instructions.
-use Rattle.reduction.proofs.Words.{◌≡◌, ℕ, ◌+◌, List, [], ◌∷◌, ◌++◌, length, Option, Some, None, refl, true, false, Bool, slice_get, slice_set}
-use Rattle.reduction.proofs.Words.{if◌then◌else◌, ValType, Value, I32, Instr, Contents, number_in, PlainStep, Leaves, Fails, Lacks}
-use Rattle.std.proofs.Common.{◌&&◌}
-use Rattle.std.specs.Prelude.{is_some}
-use Rattle.syntax.specs.declared.operator.Extension.{Extension}
-use Rattle.syntax.specs.declared.operator.Extension.TheVariants.{Unsigned}
-use Rattle.syntax.specs.declared.instruction.Instr.TheVariants.{Unreachable, Nop, Drop}
-use Rattle.syntax.specs.declared.instruction.Instr.TheVariants.{Select, LocalGet, LocalSet, LocalTee, GlobalGet, GlobalSet, Load}
-use Rattle.syntax.specs.declared.instruction.Instr.TheVariants.{LoadNarrow, Store, StoreNarrow, MemorySize, MemoryGrow, Const, Eqz, Unary}
-use Rattle.syntax.specs.declared.instruction.Instr.TheVariants.{Binary, Compare, Convert}
-use Rattle.validate.specs.Typing.{bytes_of_type, bytes_of_width}
+use Rattle.reduction.proofs.Words.{bytes_of_type, bytes_of_width, I32, if◌then◌else◌, MemoryGrow, MemorySize, plain_step, StoreNarrow, Unreachable, with_memory}
+use Rattle.reduction.proofs.Words.{Computed, computed, Contents, Extension, LocalGet, LocalSet, LocalTee, number_in, PlainStep, replaces, slice_get, slice_set}
+use Rattle.reduction.proofs.Words.{counts, Fails, false, giving, is_some, Leaves, length, loaded, Number, Option, Select, stored, TrapOf, Unsigned, ValType, []}
+use Rattle.reduction.proofs.Words.{Bool, Instr, is_of, Lacks, List, None, refl, Some, true, Unary, Value, ℕ, ◌&&◌, ◌++◌, ◌+◌, ◌∷◌, ◌≡◌}
+use Rattle.syntax.specs.declared.instruction.Instr.TheVariants.{Nop, Drop, GlobalGet, GlobalSet, Load, LoadNarrow, Store, Const, Eqz, Binary, Compare, Convert}
 use Rattle.validate.specs.Height.{Changes}
-use Rattle.instance.specs.Store.{Store as Memory_and_globals, with_memory, with_globals, bytes_of, bytes_at, written_at, grown}
-use Rattle.reduction.specs.Operators.{Computed, Number, TrapOf, binary, converted}
-use Rattle.reduction.specs.Step.{plain_step, giving, loaded, stored, computed, is_of, alike, replaces}
-use Rattle.reduction.specs.Heights.{counts}
+use Rattle.instance.specs.Store.{Store as Memory_and_globals, with_globals, bytes_of, bytes_at, written_at, grown}
+use Rattle.reduction.specs.Operators.{binary, converted}
+use Rattle.reduction.specs.Step.{alike}
 
 -- the store is as it was, or has one other global, other bytes in its memory, or more memory
 pub data StoreLeft (s : Memory_and_globals) : Memory_and_globals → Type 0 where

@@ -1,23 +1,14 @@
 -- An instruction that neither branches nor calls keeps the types, and finds its operands.
-use Rattle.reduction.proofs.Words.{◌≡◌, ℕ, ◌+◌, List, [], ◌∷◌, Option, Some, None, sym, ap, ◌∙◌, subst, true, false, Bool, slice_get, slice_set}
-use Rattle.reduction.proofs.Words.{if◌then◌else◌, ValType, Value, I32, I64, Instr, Contents, type_of, value_of, PlainStep, Leaves, Fails}
-use Rattle.reduction.proofs.Words.{Lacks, types_of, StaysInBlock}
-use Rattle.std.specs.Option.{option_map}
-use Rattle.std.specs.Prelude.{is_some, IsSome, ◌==◌}
-use Rattle.std.proofs.lemmas.Option.{slice_get-map}
-use Rattle.syntax.specs.declared.operator.Extension.{Extension}
-use Rattle.syntax.specs.declared.operator.Extension.TheVariants.{Unsigned}
-use Rattle.syntax.specs.declared.operator.Conversion.{Conversion}
-use Rattle.syntax.specs.declared.operator.Conversion.TheVariants.{I32WrapI64, I64ExtendI32S, I64ExtendI32U}
-use Rattle.syntax.specs.declared.instruction.Instr.TheVariants.{Unreachable, Nop, Drop, Select, LocalGet, LocalSet, LocalTee}
-use Rattle.syntax.specs.declared.instruction.Instr.TheVariants.{GlobalGet, GlobalSet, Load, LoadNarrow, Store, StoreNarrow, MemorySize, MemoryGrow, Const, Eqz}
-use Rattle.syntax.specs.declared.instruction.Instr.TheVariants.{Unary, Binary, Compare, Convert}
+use Rattle.reduction.proofs.Words.{ap, Bool, bytes_of_type, bytes_of_width, Computed, computed, Contents, Conversion, Extension, Fails, false, giving}
+use Rattle.reduction.proofs.Words.{HaveGlobalTypes, I32, I32WrapI64, I64, I64ExtendI32S, I64ExtendI32U, if◌then◌else◌, Instr, is_of, is_some, Lacks, Leaves}
+use Rattle.reduction.proofs.Words.{List, loaded, LocalGet, LocalSet, LocalTee, MemoryGrow, MemorySize, None, Number, Option, option_map, plain_step, PlainStep}
+use Rattle.reduction.proofs.Words.{replaces, Select, slice_get, slice_get-map, slice_set, Some, StaysInBlock, stored, StoreNarrow, subst, sym, TrapOf, true}
+use Rattle.reduction.proofs.Words.{type_of, types_of, Unary, Unreachable, Unsigned, ValType, Value, value_of, ℕ, [], ◌+◌, ◌==◌, ◌∙◌, ◌∷◌, ◌≡◌}
+use Rattle.std.specs.Prelude.{IsSome}
+use Rattle.syntax.specs.declared.instruction.Instr.TheVariants.{Nop, Drop, GlobalGet, GlobalSet, Load, LoadNarrow, Store, Const, Eqz, Binary, Compare, Convert}
 use Rattle.syntax.specs.declared.contents.Global.{Global}
-use Rattle.validate.specs.Typing.{Context as Typing, InstrTyped, ConversionTurns, bytes_of_type, bytes_of_width}
+use Rattle.validate.specs.Typing.{Context as Typing, InstrTyped, ConversionTurns}
 use Rattle.instance.specs.Store.{Store as Memory_and_globals, bytes_at}
-use Rattle.instance.specs.Storing.{HaveGlobalTypes}
-use Rattle.reduction.specs.Operators.{Computed, Number, TrapOf}
-use Rattle.reduction.specs.Step.{plain_step, giving, loaded, stored, computed, is_of, replaces}
 use Rattle.reduction.proofs.Lists.{typed_at, set_typed, type_of-value_of, is_of-typed}
 
 -- what an instruction leaves is typed

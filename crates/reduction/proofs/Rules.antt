@@ -1,19 +1,13 @@
 -- The rules of a step by their shape: the one walk over what comes next.
-use Rattle.reduction.proofs.Words.{◌≡◌, ℕ, zero, suc, ◌≤◌, List, [], ◌∷◌, length, take, drop, reverse, Option, Some, None, refl, ◌∙◌, true, false, Bool}
-use Rattle.reduction.proofs.Words.{nat_le, slice_get, if◌then◌else◌, Value, I32, Instr, Br, BrIf, BrTable, Contents, FuncType, Code, BlockKind, AsBlock, Done, Plain}
-use Rattle.reduction.proofs.Words.{Structured, If, led_by, label_types, type_of_function, Store, Context, Label, Frame, types_of, locals_of, with_locals, going_on, receiving}
-use Rattle.reduction.proofs.Words.{continuing, Move, Goes, Traps, Calls, Stuck, PlainStep, Leaves, Fails, Lacks, next, StaysInBlock, code_left, operands_of}
-use Rattle.std.proofs.Common.{◌&&◌}
-use Rattle.std.specs.Prelude.{is_some, ◌==◌}
-use Rattle.std.proofs.lemmas.Bool.{and_parts}
-use Rattle.syntax.specs.declared.instruction.Instr.TheVariants.{Return, Call, CallIndirect}
-use Rattle.syntax.specs.declared.types.BlockType.{BlockType}
-use Rattle.validate.specs.SameTypes.{same_valtypes, same_type}
+use Rattle.reduction.proofs.Words.{and_parts, AsBlock, at_code, BlockKind, BlockType, Bool, Br, branched, BrIf, BrTable, Call, CallIndirect, Calls, chosen}
+use Rattle.reduction.proofs.Words.{Code, code_left, Contents, Context, continuing, Done, drop, Ends, Fails, false, Frame, FuncType, Goes, going_on, I32, If}
+use Rattle.reduction.proofs.Words.{if◌then◌else◌, Instr, is_some, Label, label_for, label_types, Lacks, Leaves, led_by, length, List, locals_of, Move, nat_le}
+use Rattle.reduction.proofs.Words.{next, None, on_contexts, operands_of, Option, Plain, plain, plain_step, PlainStep, receiving, refl, Return, returned}
+use Rattle.reduction.proofs.Words.{reverse, same_type, same_valtypes, slice_get, Some, StaysInBlock, Store, Structured, Stuck, suc, take, Traps, true, turned}
+use Rattle.reduction.proofs.Words.{type_of_function, types_of, Value, with_locals, zero, ℕ, [], ◌&&◌, ◌==◌, ◌∙◌, ◌∷◌, ◌≡◌, ◌≤◌}
 use Rattle.validate.specs.Typing.{type_of_block}
 use Rattle.validate.proofs.SameTypes.{same_valtypes-is}
-use Rattle.reduction.specs.Configuration.{branched, returned}
-use Rattle.reduction.specs.Step.{Ends, plain_step, turned, plain, at_code}
-use Rattle.reduction.specs.Step.{on_contexts, label_for, takes_topmost, call_typed, call_element, entering, structured, chosen}
+use Rattle.reduction.specs.Step.{takes_topmost, call_typed, call_element, entering, structured}
 use Rattle.reduction.proofs.Lists.{at_least}
 use Rattle.reduction.proofs.PlainStepView.{StoreLeft, same_store, PlainStepLeaves, PlainStepFails, PlainStepView, plain_step_view}
 

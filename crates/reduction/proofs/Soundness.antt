@@ -1,20 +1,16 @@
 -- Soundness: a typed configuration has a next step, and stays typed (WebAssembly Core 1.0, appendix, soundness).
+use Rattle.reduction.proofs.Words.{CallIndirect, function_types, HasFunctionType, HaveGlobalTypes, if◌then◌else◌, on_contexts, same_valtypes, type_of_function}
+use Rattle.reduction.proofs.Words.{and_parts, AsLoop, code_left, continuing, label_for, length-map, locals_of, operands_of, plain_step, Structured, with_locals}
+use Rattle.reduction.proofs.Words.{ap, AsBlock, at_code, branched, Contents, FuncType, going_on, PlainStep, receiving, returned, same_type, slice_get, types_of}
+use Rattle.reduction.proofs.Words.{arith, BrTable, chosen, Context, inside, Leaves, length, nat_le, Option, pushed, Return, reverse, turned, type_of, ValType}
+use Rattle.reduction.proofs.Words.{Bool, BrIf, Call, Code, Done, drop, Fails, false, Frame, Instr, Label, Lacks, List, next, Plain, plain, Traps, Typed, Value}
+use Rattle.reduction.proofs.Words.{Br, I32, I64, If, None, refl, Some, suc, sym, take, true, zero, ℕ, [], ◌&&◌, ◌++◌, ◌==◌, ◌∙◌, ◌∷◌, ◌≡◌}
 use Rattle.reduction.proofs.Contexts.{with_locals-operands, with_locals-code}
-use Rattle.reduction.proofs.Words.{◌≡◌, ℕ, zero, suc, List, [], ◌∷◌, ◌++◌, length, reverse, ◌==◌, arith, take, drop, Option, Some, None, refl, sym, ap}
-use Rattle.reduction.proofs.Words.{◌∙◌, true, false, Bool, nat_le, slice_get, if◌then◌else◌, ValType, Value, I32, I64, Instr, Br, BrIf, BrTable}
-use Rattle.reduction.proofs.Words.{Contents, FuncType, Code, AsBlock, AsLoop, Done, Plain, Structured, If, pushed, HasFunctionType, type_of_function, Context, Label}
-use Rattle.reduction.proofs.Words.{Frame, locals_of, with_locals, going_on, receiving, continuing, types_of, Traps, PlainStep, Leaves, Fails, Lacks, next}
-use Rattle.reduction.proofs.Words.{code_left, operands_of, length-map, type_of}
-use Rattle.std.proofs.Common.{option_and_then, eq-eqb, ◌&&◌}
-use Rattle.std.proofs.lemmas.Bool.{and_parts}
+use Rattle.std.proofs.Common.{option_and_then, eq-eqb}
 use Rattle.syntax.specs.declared.types.ValType.TheVariants as type
-use Rattle.syntax.specs.declared.instruction.Instr.TheVariants.{Return, Call, CallIndirect}
-use Rattle.validate.specs.Typing.{Context as Typing, inside, Typed, InstrTyped, function_types, type_of_block}
+use Rattle.validate.specs.Typing.{Context as Typing, InstrTyped, type_of_block}
 use Rattle.instance.specs.Store.{Store as Memory_and_globals}
-use Rattle.instance.specs.Storing.{HaveGlobalTypes}
-use Rattle.reduction.specs.Configuration.{branched, returned}
-use Rattle.reduction.specs.Step.{plain_step, turned, plain, at_code, on_contexts, label_for, takes_topmost, call_typed, call_element, entering, chosen}
-use Rattle.validate.specs.SameTypes.{same_valtypes, same_type}
+use Rattle.reduction.specs.Step.{takes_topmost, call_typed, call_element, entering}
 use Rattle.reduction.specs.Typed.{Under, in_label, in_call, outermost, Configured, Sound}
 use Rattle.reduction.proofs.Lists.{types_of-append, pushed-split, topmost_types, in_order, pushed-last, label_holds, length-pushed}
 use Rattle.validate.proofs.SameTypes.{same_valtypes-is, same_valtypes-of}

@@ -1,21 +1,18 @@
 -- A run keeps what the stores of a module have.
-use Rattle.reduction.proofs.Words.{◌≡◌, ℕ, ◌+◌, ◌≤◌, List, [], ◌++◌, length, take, drop, replicate, Some, None, refl, sym, ap, ◌∙◌, arith, Bool, true}
-use Rattle.reduction.proofs.Words.{false, nat_le, length-append, if◌then◌else◌, ValType, Contents, FuncType, pushed, HasFunctionType, Context, types_of}
-use Rattle.reduction.proofs.Words.{Move, Goes, Traps, Calls, Stuck, next, Bounded, IsStoreOf}
-use Rattle.std.proofs.Common.{◌*◌, ◌/◌, length-drop}
+use Rattle.reduction.proofs.Words.{AwaitsWithin, Contents, HasFunctionType, if◌then◌else◌, length-append, length-drop, length-take-le, SoundWithin, with_memory}
+use Rattle.reduction.proofs.Words.{All, arith, Bounded, Calls, Context, false, FuncType, IsStoreOf, length, nat_le, pushed, replicate, Stuck, types_of, ValType}
+use Rattle.reduction.proofs.Words.{ap, Bool, drop, Ends, Goes, List, Move, next, None, refl, Some, sym, take, Traps, true, ℕ, [], ◌*◌, ◌++◌, ◌+◌, ◌∙◌, ◌≡◌, ◌≤◌}
+use Rattle.std.proofs.Common.{◌/◌}
 use Rattle.std.proofs.Math.Nat.{mul-div_cancel}
-use Rattle.std.proofs.lemmas.List.{length-take-le, length-replicate}
+use Rattle.std.proofs.lemmas.List.{length-replicate}
 use Rattle.limits.specs.declared.TheConstants.{PAGE_SIZE}
 use Rattle.validate.specs.Segments.{minimum}
-use Rattle.instance.specs.Store.{Store as Stored, page_limit, pages, grown, with_memory, written_at}
-use Rattle.reduction.specs.Step.{Ends}
-use Rattle.reduction.specs.HeightsTyped.{AwaitsWithin, SoundWithin}
+use Rattle.instance.specs.Store.{Store as Stored, page_limit, pages, grown, written_at}
 use Rattle.instance.specs.Storing.{NamesFunction, HasPages}
 use Rattle.reduction.proofs.Lists.{at_least}
 use Rattle.reduction.proofs.HeightsSound.{sound_within}
 use Rattle.reduction.proofs.PlainStepView.{StoreLeft, same_store, global_set, written, enlarged}
 use Rattle.reduction.proofs.Rules.{LeavesStore, store_after}
-use Rattle.std.specs.Prelude.{All}
 
 -- what a store has beside its globals
 record Rest (m : Contents) (s : Stored) : Type 0 where

@@ -1,8 +1,7 @@
 -- No instruction writes the table.
-use Rattle.reduction.proofs.Words.{◌≡◌, ℕ, List, refl, ◌∙◌, Value, Contents, Context, Goes, next}
+use Rattle.reduction.proofs.Words.{Contents, Context, defined, Goes, HostCall, imported, Invokes, List, next, refl, Run, RunEnd, Value, ℕ, ◌∙◌, ◌≡◌}
 use Rattle.instance.specs.Store.{Store as Memory_and_globals}
-use Rattle.reduction.specs.Invoking.{Invokes, defined, imported}
-use Rattle.reduction.specs.Run.{HostCall, RunEnd, Run, RunsWithin, goes, calls, asks}
+use Rattle.reduction.specs.Run.{RunsWithin, goes, calls, asks}
 use Rattle.reduction.proofs.PlainStepView.{StoreLeft, same_store}
 use Rattle.reduction.proofs.Rules.{store_after}
 

@@ -1,17 +1,8 @@
 -- A run whose host answers every import with -1 is one whatever else is seen of the host.
-use Rattle.std.proofs.Common.{◌≡◌, ℕ, List, refl}
-use Rattle.syntax.specs.declared.types.Value.{Value}
-use Rattle.syntax.specs.declared.contents.Contents.{Contents}
-use Rattle.validate.specs.declared.side_table.SideTable.{SideTable}
-use Rattle.instance.specs.Store.{Store}
-use Rattle.instance.specs.declared.stack.Caller.{Caller}
-use Rattle.reduction.specs.Run.{HostCall}
-use Rattle.reduction.specs.Hosting.{Lawful}
+use Rattle.resident.proofs.Words.{AnswersMinusOne, Caller, Contents, HostCall, Lawful, List, Paused, refl, SideTable, Store, Value, ℕ, ◌≡◌}
 use Rattle.reduction.proofs.StepByStep.{steps_map}
-use Rattle.interp.specs.declared.paused.Paused.{Paused}
 use Rattle.interp.specs.Slices.{RunIsPaused}
 use Rattle.interp.proofs.Slots.OtherHosts.{paused_over}
-use Rattle.resident.specs.NoHost.{AnswersMinusOne}
 use Rattle.resident.specs.Underway.{answers}
 
 module _ {H : Type 0} where

@@ -1,3 +1,4 @@
+pub mod Words
 mod AnyHost
 mod NoHostNames
 mod Numbered

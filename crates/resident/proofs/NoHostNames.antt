@@ -1,15 +1,13 @@
 -- The host that refuses every import names the types of a valid module's imports.
-use Rattle.std.proofs.Common.{◌≡◌, ℕ, zero, suc, List, [], ◌∷◌, ◌++◌, map, Option, Some, sym, ap, ◌∙◌}
-use Rattle.std.specs.Prelude.{slice_get, unwrap_or, option_and_then}
+use Rattle.resident.proofs.Words.{ap, Contents, FuncType, List, Names, Option, slice_get, Some, sym, type_of_function, ℕ, ◌∙◌, ◌≡◌}
+use Rattle.std.proofs.Common.{zero, suc, [], ◌∷◌, ◌++◌, map}
+use Rattle.std.specs.Prelude.{unwrap_or, option_and_then}
 use Rattle.std.specs.Option.{option_map}
 use Rattle.std.proofs.lemmas.Option.{slice_get-map, slice_get_within, slice_get-get_or, get_or_from_slice_get}
-use Rattle.syntax.specs.declared.contents.Contents.{Contents}
-use Rattle.syntax.specs.declared.contents.FuncType.{FuncType}
 use Rattle.syntax.specs.declared.contents.Func.{Func}
 use Rattle.syntax.specs.declared.contents.Import.{Import}
 use Rattle.validate.specs.Valid.{ValidModule, ValidImport}
-use Rattle.validate.specs.Typing.{function_types, type_of_function}
-use Rattle.reduction.specs.Hosting.{Names}
+use Rattle.validate.specs.Typing.{function_types}
 use Rattle.resident.specs.NoHost.{empty_type, type_of_import, types_of_imports}
 
 -- an element of the front

@@ -1,12 +1,8 @@
 -- The export with a name, and its number.
-use Rattle.std.proofs.Common.{◌≡◌, ℕ, List, Option, Some, None, refl, sym, ap}
+use Rattle.resident.proofs.Words.{ap, Contents, ExportsNoFunction, FuncType, HasFunctionType, List, None, Option, refl, Some, sym, ℕ, ◌≡◌}
 use Rattle.syntax.specs.Exporting.{IsFirstPlace}
-use Rattle.syntax.specs.declared.contents.Contents.{Contents}
-use Rattle.syntax.specs.declared.contents.FuncType.{FuncType}
 use Rattle.syntax.specs.declared.contents.ExternKind.TheVariants.{Func}
 use Rattle.syntax.specs.declared.export.Export.{Export}
-use Rattle.validate.specs.Typing.{HasFunctionType}
-use Rattle.resident.specs.Calls.{ExportsNoFunction}
 use Rattle.resident.specs.Numbered.{ExportsAt, ExportsNoFunctionAt, NumbersExport}
 
 pub unnamed : (m : Contents) (name : List ℕ) → IsFirstPlace m.exports name None → ExportsNoFunction m name

@@ -1,19 +1,11 @@
 -- What the host that refuses every import, and a module's start function, bring to a call.
-use Rattle.std.proofs.Common.{◌≡◌, ℕ, List, [], ◌∷◌, Some, None, refl}
-use Rattle.syntax.specs.declared.contents.FuncType.{FuncType}
-use Rattle.validate.specs.Typing.{HasFunctionType, type_of_function}
-use Rattle.events.specs.declared.ended.Ended.{Ended}
-use Rattle.reduction.specs.Invoking.{ReturnsTyped}
+use Rattle.resident.proofs.Words.{AnswersMinusOne, CallsInstance, Contents, Ended, FuncType, HasFunctionType, HostCall, KeptInstance, Lawful, List, None, refl}
+use Rattle.resident.proofs.Words.{Some, type_of_function, Value, ℕ, ◌≡◌, ◌≤◌}
+use Rattle.std.proofs.Common.{[], ◌∷◌}
+use Rattle.reduction.specs.Invoking.{ReturnsTyped, TakesArguments}
 use Rattle.reduction.specs.Leading.{Leads, calling, scene}
-use Rattle.std.specs.Prelude.{◌≤◌}
-use Rattle.syntax.specs.declared.contents.Contents.{Contents}
-use Rattle.syntax.specs.declared.types.Value.{Value}
 use Rattle.validate.specs.Valid.{ValidModule}
-use Rattle.reduction.specs.Run.{HostCall}
-use Rattle.reduction.specs.Hosting.{Lawful}
-use Rattle.reduction.specs.Invoking.{TakesArguments}
-use Rattle.resident.specs.NoHost.{AnswersMinusOne}
-use Rattle.resident.specs.Calls.{AllRefused, KeptInstance, CallsInstance}
+use Rattle.resident.specs.Calls.{AllRefused}
 
 pub start_takes_nothing : (m : Contents) (function : ℕ) → ValidModule m → m.start ≡ Some function → TakesArguments m function []
 start_takes_nothing m function valid is = record {

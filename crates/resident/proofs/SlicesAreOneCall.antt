@@ -1,29 +1,20 @@
 -- A call of an instance in slices is a call of it.
-use Rattle.std.proofs.Common.{◌≡◌, ℕ, ◌<◌, ◌≤◌, List, length, Option, Some, None, refl, ap, ◌∙◌, arith}
-use Rattle.std.specs.Prelude.{slice_get, IfSome}
+use Rattle.resident.proofs.Words.{ap, arith, Caller, CallPlace, CallsInstance, CallUnderway, Ended, Halt, IfSome, Import, Inside, IsSomeCall, KeptInstance}
+use Rattle.resident.proofs.Words.{List, memory_of, Names, None, Option, Paused, refl, SideTable, slice_get, Some, stop_of, Store, Value, ℕ, ◌∙◌, ◌≡◌, ◌≤◌}
+use Rattle.std.proofs.Common.{◌<◌, length}
 use Rattle.limits.specs.declared.TheConstants.{MAX_DEPTH}
 use Rattle.syntax.specs.Loaded.{Loaded}
-use Rattle.syntax.specs.declared.types.Value.{Value}
-use Rattle.instance.specs.Store.{Store, memory_of}
-use Rattle.instance.specs.declared.stack.Caller.{Caller}
 use Rattle.instance.specs.declared.stack.Last.{Last}
-use Rattle.instance.specs.Stops.{Halt, stop_of}
-use Rattle.validate.specs.declared.side_table.SideTable.{SideTable}
-use Rattle.events.specs.declared.ended.Ended.{Ended}
 use Rattle.events.specs.declared.ended.Ending.TheVariants.{Return, Spent}
 use Rattle.reduction.specs.Run.{as_operands}
-use Rattle.reduction.specs.Hosting.{Answers, Names}
+use Rattle.reduction.specs.Hosting.{Answers}
 use Rattle.reduction.specs.Invoking.{ReturnsTyped}
 use Rattle.reduction.proofs.Outside.{invoked_import, answer_returns}
-use Rattle.interp.specs.declared.paused.Paused.{Paused}
 use Rattle.interp.specs.Slices.{RunIsPaused, IsSomePaused, RunIsOver, RunStandsAt}
 use Rattle.resident.specs.NoHost.{IsMinusOne, types_of_imports}
-use Rattle.resident.specs.Calls.{KeptInstance, CallsInstance}
-use Rattle.resident.specs.Underway.{CallUnderway, HasCome, ComesTo, IsSomeCall, used_at, used_by}
+use Rattle.resident.specs.Underway.{HasCome, ComesTo, used_at, used_by}
 use Rattle.resident.specs.Slices.{CallIsOver as IsOverCall, CallStandsAt}
 use Rattle.resident.specs.Inner.Going.{paused_at}
-use Rattle.resident.specs.declared.calling.CallPlace.{CallPlace}
-use Rattle.resident.specs.declared.calling.CallPlace.TheVariants.{Import, Inside}
 use Rattle.resident.proofs.AnyHost.{refuses, paused_seen, paused_unseen}
 use Rattle.resident.proofs.Refused.{called}
 

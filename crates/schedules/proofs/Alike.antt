@@ -1,11 +1,6 @@
 -- A loop among the threads, and the same loop of the world, where a step that is under way has not begun.
-use Rattle.std.proofs.Common.{◌≡◌, ℕ, zero, suc, List, [], ◌∷◌, ◌++◌, map, Option, Some, None, refl, sym, ap, ◌∙◌}
-use Rattle.std.specs.Prelude.{slice_get, slice_set}
-use Rattle.phases.specs.State.{Setting, Core}
-use Rattle.desk.specs.Desk.{Desk}
-use Rattle.world.specs.World.{opening_loop}
-use Rattle.schedules.specs.Accesses.{Access, Reach, StepsBy}
-use Rattle.schedules.specs.Schedule.{StepUnderway}
+use Rattle.schedules.proofs.Words.{Access, ap, Core, Desk, List, map, None, opening_loop, Option, Reach, refl, Setting, slice_get, slice_set, Some, StepsBy}
+use Rattle.schedules.proofs.Words.{StepUnderway, suc, sym, zero, ℕ, [], ◌++◌, ◌∙◌, ◌∷◌, ◌≡◌}
 use Rattle.schedules.proofs.SendsMoveBehind.{Gets}
 
 -- once something was done, sends may have come
@@ -46,14 +41,13 @@ pub record AreAlikeAt (n : ℕ) (p : Core Desk) (us : List (Option StepUnderway)
 
 pub alike_at : (n : ℕ) (ps : List (Core Desk)) (us : List (Option StepUnderway)) (qs : List (Core Desk)) (p : Core Desk) → AllAlike ps us qs → slice_get ps n ≡ Some p → AreAlikeAt n p us qs
 alike_at n [] us qs p all at = absurd (cc)
-alike_at n (x ∷ ps) [] qs p all at = absurd all
-alike_at n (x ∷ ps) (u ∷ us) [] p all at = absurd all
 alike_at zero (x ∷ ps) (u ∷ us) (q ∷ qs) p all at =
     let same : x ≡ p = cc in
     record { step = u; core = q; at_step = refl; at_core = refl; alike = (rw same at all.0) }
 alike_at (suc n) (x ∷ ps) (u ∷ us) (q ∷ qs) p all at =
     let it = alike_at n ps us qs p all.1 at in
     record { step = it.step; core = it.core; at_step = it.at_step; at_core = it.at_core; alike = it.alike }
+alike_at n _ _ _ p all at = absurd all
 
 -- where the threads' step is known
 pub alike_known : (n : ℕ) (ps : List (Core Desk)) (us : List (Option StepUnderway)) (qs : List (Core Desk)) (p : Core Desk) (u : Option StepUnderway)

@@ -1,29 +1,15 @@
 -- What holds along what a loop did in its thread.
-use Rattle.std.proofs.Common.{◌≡◌, ◌≢◌, ℕ, ◌+◌, ◌<◌, ◌≤◌, ◌==◌, ◌&&◌, inl, inr, Bool, true, false, cond, List, [], ◌∷◌, ◌++◌, Option, Some, None, refl, sym, ap, subst, ◌∙◌, arith}
-use Rattle.std.proofs.lemmas.Bool.{eqb-true}
-use Rattle.tallies.specs.Requests.{times, is_request, is_pending, last_in}
-use Rattle.tallies.proofs.Requests.{times_miss, pushed, same_request}
-use Rattle.tallies.proofs.Filtered.{Member}
-use Rattle.events.specs.declared.did.StepDid.{StepDid}
-use Rattle.std.specs.Prelude.{nat_lt}
-use Rattle.phases.specs.declared.entry.Status.{Status}
-use Rattle.phases.specs.declared.entry.Status.TheVariants.{Running, Over, Failed}
-use Rattle.phases.specs.Calls.{Calls, IsLawful}
-use Rattle.phases.specs.History.{Event, Stepped, OrderAsked, EndOffered, ClockRaised, MovedBeside, EventStep}
-use Rattle.phases.specs.Outside.{is_failed, next_order_of, next_in, handing}
-use Rattle.phases.specs.Requests.{Stage, HandedOut, Answered, Cancelled, Request, Requests, has_number, in_stage, with_stage, is_settled, is_open_stage, lowest_open}
-use Rattle.phases.specs.Host.{with_requests}
-use Rattle.phases.specs.State.{Setting, Loop, State}
-use Rattle.phases.specs.Guests.{GuestCall}
-use Rattle.phases.specs.Step.{StepsWith}
-use Rattle.phases.specs.View.{View, Sent}
+use Rattle.schedules.proofs.Words.{Answered, ap, AreInThread, arith, Bool, Calls, Cancelled, ClockRaised, cond, EndOffered, eqb-true, Event, EventStep, Failed}
+use Rattle.schedules.proofs.Words.{false, GuestCall, HandedOut, has_number, in_stage, inl, inr, is_failed, is_open_stage, is_pending, is_request, is_settled}
+use Rattle.schedules.proofs.Words.{IsBeside, IsInThread, IsLawful, last_in, List, Loop, lowest_open, Member, MovedBeside, nat_lt, next_order_of, None, Option}
+use Rattle.schedules.proofs.Words.{OrderAsked, Over, Passed, PassesThrough, pushed, refl, Request, Requests, Running, same_request, Sent, sent, Setting, Some}
+use Rattle.schedules.proofs.Words.{Stage, State, Status, StepDid, Stepped, StepsWith, subst, sym, times, times_miss, took, tried, true, unmoved, View}
+use Rattle.schedules.proofs.Words.{with_requests, with_stage, ℕ, [], ◌&&◌, ◌++◌, ◌+◌, ◌<◌, ◌==◌, ◌∙◌, ◌∷◌, ◌≡◌, ◌≢◌, ◌≤◌}
+use Rattle.phases.specs.Outside.{next_in, handing}
 use Rattle.phases.specs.View.{Cancelled as TriedToCancel}
-use Rattle.phases.proofs.CancelFates.{IsBeside, unmoved, tried, sent, took}
-use Rattle.desk.specs.Laws.{Passed, PassesThrough}
-use Rattle.schedules.specs.Together.{IsInThread, AreInThread}
 use Rattle.schedules.proofs.FreeSlots.{CallDone, keeps_all, opens_free, cancels_open, IsKept, step_kept}
 use Rattle.schedules.proofs.OwnRequests.{map_member, filter_member, push_member, find_member, open_not_settled, same_order, times_of_another, beside_same}
-use Rattle.schedules.proofs.ViewsGrow.{IsWide, Grows, grows_self, grows_on, still_grows, step_grows}
+use Rattle.schedules.proofs.ViewsGrow.{IsWide, Grows, grows_self, grows_on, step_grows}
 
 -- what comes next is handed out
 pub data NextIs (s : State) : Type 0 where
@@ -161,19 +147,18 @@ module _ {S : Type 0} (calls : Calls S) (lawful : IsLawful calls) (g : Setting) 
       kept_along (x ∷ passed) old now own h p = kept_along passed x.new now own.1 h.1 (event_kept x.event old x.new own.0 h.0 p)
 
   -- it only grows
+  grows_step : (first old : Loop S) (did : StepDid) (made : List GuestCall) (new : Loop S) → StepsWith calls g old did made new
+      → Grows (calls.view first.shared) (calls.view old.shared) → Grows (calls.view first.shared) (calls.view new.shared)
+  grows_step first old did made new h k =
+      grows_on (calls.view first.shared) (calls.view old.shared) (calls.view new.shared) k (step_grows calls lawful g old did made new h k.wide)
+
   pub event_grows : (e : Event) (old new : Loop S) → IsInThread e → EventStep calls g e old new → IsWide (calls.view old.shared) → Grows (calls.view old.shared) (calls.view new.shared)
-  event_grows e old new own h wide = event_kept (Grows (calls.view old.shared)) (grows_step old) e old new own h (grows_self (calls.view old.shared) wide) where
-    grows_step : (first old : Loop S) (did : StepDid) (made : List GuestCall) (new : Loop S) → StepsWith calls g old did made new
-        → Grows (calls.view first.shared) (calls.view old.shared) → Grows (calls.view first.shared) (calls.view new.shared)
-    grows_step first old did made new h k =
-        grows_on (calls.view first.shared) (calls.view old.shared) (calls.view new.shared) k (step_grows calls lawful g old did made new h k.wide)
+  event_grows e old new own h wide = event_kept (Grows (calls.view old.shared)) (grows_step old) e old new own h (grows_self (calls.view old.shared) wide)
 
   pub grows_along : (passed : List (Passed S)) (old now : Loop S) → AreInThread passed → PassesThrough calls g old passed now → IsWide (calls.view old.shared)
       → Grows (calls.view old.shared) (calls.view now.shared)
-  grows_along [] old now own h wide = still_grows calls lawful old.shared now.shared (ap (λ (l : Loop S). l.shared) h) wide
-  grows_along (x ∷ passed) old now own h wide =
-      let one = event_grows x.event old x.new own.0 h.0 wide in
-      grows_on (calls.view old.shared) (calls.view x.new.shared) (calls.view now.shared) one (grows_along passed x.new now own.1 h.1 one.wide)
+  grows_along passed old now own h wide =
+      kept_along (Grows (calls.view old.shared)) (grows_step old) passed old now own h (grows_self (calls.view old.shared) wide)
 
   -- what was found started is not cancelled
   abbrev ApartAt : Requests → S → Type 0

@@ -1,27 +1,19 @@
 -- Each atomic step of the threads, and what a world does for it.
-use Rattle.std.proofs.Common.{◌≡◌, ℕ, ◌+◌, ◌<◌, ◌≤◌, Bool, true, false, not, inl, inr, ◌⊎◌, List, [], ◌∷◌, ◌++◌, length, Option, Some, None, refl, sym, ap, subst, ◌∙◌, arith, MatchBool}
-use Rattle.std.specs.Prelude.{slice_get, slice_set}
-use Rattle.limits.specs.declared.TheConstants.{MAX_ASYNCS}
-use Rattle.std.proofs.lemmas.List.{length-set, length_push, set-set}
-use Rattle.order.specs.Work.{WorkOrder}
-use Rattle.tallies.proofs.Places.{set_same, set_here}
-use Rattle.phases.specs.State.{Setting, State, Loop, Core}
-use Rattle.phases.specs.Outside.{is_failed, next_order_of}
-use Rattle.phases.specs.Step.{in_state, sharing, over}
-use Rattle.desk.specs.Desk.{Desk, is_open_request, started, DeskStarts, DeskGets}
-use Rattle.world_log.specs.declared.step.Step.{Step}
+use Rattle.schedules.proofs.Words.{ap, arith, Atom, Bool, Core, core, Desk, DeskGets, entry_told, false, Idle, in_state, inl, inr, is_failed, is_open_request}
+use Rattle.schedules.proofs.Words.{is_taken_by, job_of, jobs_in, length, length-set, length_push, List, log_of, LogEntry, Loop, MatchBool, MAX_ASYNCS}
+use Rattle.schedules.proofs.Words.{next_order_of, None, not, Only, Option, over, PostsOrder, refl, RunsJoin, set-set, set_here, set_same, Setting, sharing}
+use Rattle.schedules.proofs.Words.{slice_get, slice_set, Some, Started, started, State, Step, StepDid, StepUnderway, subst, sym, Taken, Threads, true}
+use Rattle.schedules.proofs.Words.{with_loop, with_worker_at, Worker, WorkOrder, World, WorldStep, ℕ, [], ◌++◌, ◌+◌, ◌<◌, ◌∙◌, ◌∷◌, ◌≡◌, ◌≤◌, ◌⊎◌}
+use Rattle.desk.specs.Desk.{DeskStarts}
 use Rattle.world_log.specs.declared.step.Step.TheVariants as step
-use Rattle.world_log.specs.declared.entry.LogEntry.{LogEntry}
 use Rattle.world_log.specs.declared.entry.LogEntry.TheVariants as line
 use Rattle.world_log.specs.declared.outcome.PostOutcome.TheVariants as post
 use Rattle.world_log.specs.declared.outcome.StartOutcome.TheVariants as start
 use Rattle.world_log.specs.declared.outcome.FinishOutcome.TheVariants as finish
-use Rattle.events.specs.declared.did.StepDid.{StepDid}
 use Rattle.events.specs.declared.did.StepDid.TheVariants as did
-use Rattle.world.specs.Laws.{RunsJoin}
-use Rattle.world.specs.World.{World, Worker, Idle, Taken, Started, Only, PostsOrder, StartsJob, FinishesJob, SendsTo, WorldStep, with_loop, with_worker_at, job_of, entry_told, core}
-use Rattle.schedules.specs.Laws.{log_of, jobs_in, is_post_entry, is_taken_by}
-use Rattle.schedules.specs.Schedule.{StepUnderway, Threads, Atom, Begin, Next, End, Whole, MayBe, IsBetween, BeginsStep, GoesOnStep, EndsStep, HandsOutAtOnce, TakesOne, AtOnce, AtomStep}
+use Rattle.world.specs.World.{StartsJob, FinishesJob, SendsTo}
+use Rattle.schedules.specs.Laws.{is_post_entry}
+use Rattle.schedules.specs.Schedule.{Begin, Next, End, Whole, MayBe, IsBetween, BeginsStep, GoesOnStep, EndsStep, HandsOutAtOnce, TakesOne, AtOnce, AtomStep}
 use Rattle.schedules.proofs.Alike.{IsBehind, Alike, AllAlike, AreAlikeAt, alike_at, alike_known, alike_set}
 use Rattle.schedules.proofs.Behind.{behind_begun, behind_next, behind_started, behind_sent, behind_is, behind_ended, Received}
 use Rattle.schedules.proofs.Hands.{AreHeld, IsAt, handed, waiting, waiting_push, is_at, hand_posts, hand_takes, hand_goes, hand_drops}
@@ -67,49 +59,49 @@ module _ (joins : RunsJoin) (all : ℕ) (t : Threads) (ls : List (Core Desk)) (w
   more_room : (told : List LogEntry) → used ≤ used + jobs_in told
   more_room told = omega arith
 
-  -- a step begins
-  begins : (n : ℕ) (told : List LogEntry) (t' : Threads) → BeginsStep t n told t' → On told t'
-  begins n told t' h = rw (h.after, h.silent) (record {
-    loops = ls;
-    workers = ws;
+  -- where no job is posted or taken, the bag stays, and which worker stands for which
+  same_bag : (told : List LogEntry) (t' : Threads) (loops : List (Core Desk)) (workers : List Worker) → Runs w used told (beside t'.world loops workers) used
+      → AllAlike t'.world.loops t'.steps loops → AreHeld all bag hand t'.world.workers workers → t'.world.jobs ≡ t.world.jobs → On told t'
+  same_bag told t' loops workers runs same held jobs = record {
+    loops = loops;
+    workers = workers;
     bag = bag;
     hand = hand;
-    runs = run_none w used [] (λ l. refl);
-    alike =
-        rw (← (set_same t.world.loops n p h.at), ← (set_same ls n q.0 q.1)) (alike_set n t.world.loops t.steps ls p (Some h.step) q.0 (behind_begun h.setting h.old h.step q.0 q.2 h.steps) alike);
-    hands = hands;
-    jobs = jobs_are;
-    room = more_room [];
-  }) where
-    p : Core Desk
-    p = core h.setting h.old
+    runs = runs;
+    alike = same;
+    hands = held;
+    jobs = jobs ∙ jobs_are;
+    room = more_room told;
+  }
 
-    q : (q : Core Desk) × (slice_get ls n ≡ Some q) × Alike p None q
-    q = alike_known n t.world.loops t.steps ls p None alike h.at h.between
+  -- a step begins
+  begins : (n : ℕ) (told : List LogEntry) (t' : Threads) → BeginsStep t n told t' → On told t'
+  begins n told t' h =
+      rw (h.after, h.silent)
+      (same_bag [] (record t { steps = slice_set t.steps n (Some h.step) }) ls ws (run_none w used [] (λ l. refl))
+      (rw (← (set_same t.world.loops n p h.at), ← (set_same ls n q.0 q.1)) (alike_set n t.world.loops t.steps ls p (Some h.step) q.0 (behind_begun h.setting h.old h.step q.0 q.2 h.steps) alike))
+      hands refl) where
+        p : Core Desk
+        p = core h.setting h.old
+
+        q : (q : Core Desk) × (slice_get ls n ≡ Some q) × Alike p None q
+        q = alike_known n t.world.loops t.steps ls p None alike h.at h.between
 
   -- it goes on
   goes_on : (n : ℕ) (told : List LogEntry) (t' : Threads) → GoesOnStep t n told t' → On told t'
-  goes_on n told t' h = rw (h.after, h.silent) (record {
-    loops = ls;
-    workers = ws;
-    bag = bag;
-    hand = hand;
-    runs = run_none w used [] (λ l. refl);
-    alike =
-        rw (set_same ls n q.0 q.1) at (alike_set n t.world.loops t.steps ls (core h.setting (sharing h.old h.desk)) (Some (record h.step { ahead = h.ahead })) q.0
-        (behind_next h.setting h.old h.step q.0 q.2 h.access h.ahead h.desk h.moves h.front) alike);
-    hands = hands;
-    jobs = jobs_are;
-    room = more_room [];
-  }) where
-    next : Threads
-    next = record {
-      world = with_loop t.world n h.setting (sharing h.old h.desk);
-      steps = slice_set t.steps n (Some (record h.step { ahead = h.ahead }));
-    }
+  goes_on n told t' h =
+      rw (h.after, h.silent)
+      (same_bag [] next ls ws (run_none w used [] (λ l. refl))
+      (rw (set_same ls n q.0 q.1) at (alike_set n t.world.loops t.steps ls (core h.setting (sharing h.old h.desk)) (Some (record h.step { ahead = h.ahead })) q.0
+      (behind_next h.setting h.old h.step q.0 q.2 h.access h.ahead h.desk h.moves h.front) alike)) hands refl) where
+        next : Threads
+        next = record {
+          world = with_loop t.world n h.setting (sharing h.old h.desk);
+          steps = slice_set t.steps n (Some (record h.step { ahead = h.ahead }));
+        }
 
-    q : (q : Core Desk) × (slice_get ls n ≡ Some q) × IsBehind (core h.setting h.old) h.step q
-    q = alike_known n t.world.loops t.steps ls (core h.setting h.old) (Some h.step) alike h.at h.underway
+        q : (q : Core Desk) × (slice_get ls n ≡ Some q) × IsBehind (core h.setting h.old) h.step q
+        q = alike_known n t.world.loops t.steps ls (core h.setting h.old) (Some h.step) alike h.at h.underway
 
   -- it ends: the world takes it whole, and then the sends that came
   module _ (n : ℕ) (g : Setting) (l : Loop Desk) (u : StepUnderway) (at : slice_get t.world.loops n ≡ Some (core g l)) (underway : slice_get t.steps n ≡ Some (Some u)) (none : u.ahead ≡ []) where
@@ -140,22 +132,15 @@ module _ (joins : RunsJoin) (all : ℕ) (t : Threads) (ls : List (Core Desk)) (w
         rw (set-set ls n (core g after_step) (core g ended)) at both
 
   ends : (n : ℕ) (told : List LogEntry) (t' : Threads) → EndsStep t n told t' → On told t'
-  ends n told t' h = rw (h.after, h.line) (record {
-    loops = slice_set ls n (core h.setting last);
-    workers = ws;
-    bag = bag;
-    hand = hand;
-    runs = ends_run n h.setting h.old h.step h.at h.underway h.done;
-    alike = alike_set n t.world.loops t.steps ls (core h.setting last) None (core h.setting last) refl alike;
-    hands = hands;
-    jobs = jobs_are;
-    room = more_room (entry_told n h.step.did h.step.state.emits ∷ []);
-  }) where
-    last : Loop Desk
-    last = record { state = h.step.state; store = h.step.store; shared = h.old.shared }
+  ends n told t' h =
+      rw (h.after, h.line)
+      (same_bag (entry_told n h.step.did h.step.state.emits ∷ []) next (slice_set ls n (core h.setting last)) ws (ends_run n h.setting h.old h.step h.at h.underway h.done)
+      (alike_set n t.world.loops t.steps ls (core h.setting last) None (core h.setting last) refl alike) hands refl) where
+        last : Loop Desk
+        last = record { state = h.step.state; store = h.step.store; shared = h.old.shared }
 
-    next : Threads
-    next = record { world = with_loop t.world n h.setting last; steps = slice_set t.steps n None }
+        next : Threads
+        next = record { world = with_loop t.world n h.setting last; steps = slice_set t.steps n None }
 
   -- a whole step of the world
   module _ (entry : LogEntry) (r' : World) where
@@ -164,17 +149,8 @@ module _ (joins : RunsJoin) (all : ℕ) (t : Threads) (ls : List (Core Desk)) (w
 
     -- nothing is done for it
     idle : (r : World) → r' ≡ r → beside r ls ws ≡ w → Silent entry → AllAlike r'.loops t.steps ls → AreHeld all bag hand r'.workers ws → r'.jobs ≡ t.world.jobs → On (entry ∷ []) next
-    idle r is same silent loops workers jobs = record {
-      loops = ls;
-      workers = ws;
-      bag = bag;
-      hand = hand;
-      runs = rw (ap (λ x. beside x ls ws) is ∙ same) (run_none w used (entry ∷ []) silent);
-      alike = loops;
-      hands = workers;
-      jobs = jobs ∙ jobs_are;
-      room = more_room (entry ∷ []);
-    }
+    idle r is same silent loops workers jobs =
+        same_bag (entry ∷ []) next ls ws (rw (ap (λ x. beside x ls ws) is ∙ same) (run_none w used (entry ∷ []) silent)) loops workers jobs
 
     only : (told : LogEntry) → Silent told → Only t.world entry told r' → On (entry ∷ []) next
     only told silent h =
@@ -183,18 +159,9 @@ module _ (joins : RunsJoin) (all : ℕ) (t : Threads) (ls : List (Core Desk)) (w
 
     -- the owner of a loop
     owned : (n : ℕ) (s : Step) → IsBetween t n → Owned t.world r' n entry ls ws (λ w'. WorldStep w s entry w') → On (entry ∷ []) next
-    owned n s between h = record {
-      loops = slice_set ls n h.now;
-      workers = ws;
-      bag = bag;
-      hand = hand;
-      runs = run_one w (beside r' (slice_set ls n h.now) ws) s entry (entry ∷ []) used used h.moves (λ l. refl) (once_quiet used entry h.quiet);
-      alike =
-          rw (h.loops, ← (set_same t.steps n None between)) (alike_set n t.world.loops t.steps ls h.now None h.now refl alike);
-      hands = rw h.workers hands;
-      jobs = h.jobs ∙ jobs_are;
-      room = more_room (entry ∷ []);
-    }
+    owned n s between h =
+        same_bag (entry ∷ []) next (slice_set ls n h.now) ws (run_one w (beside r' (slice_set ls n h.now) ws) s entry (entry ∷ []) used used h.moves (λ l. refl) (once_quiet used entry h.quiet))
+        (rw (h.loops, ← (set_same t.steps n None between)) (alike_set n t.world.loops t.steps ls h.now None h.now refl alike)) (rw h.workers hands) h.jobs
 
     same_at : (n : ℕ) → IsBetween t n → (p : Core Desk) → slice_get t.world.loops n ≡ Some p → slice_get ls n ≡ Some p
     same_at n between p at = let q = alike_known n t.world.loops t.steps ls p None alike at between in q.1 ∙ ap Some q.2
@@ -322,48 +289,41 @@ module _ (joins : RunsJoin) (all : ℕ) (t : Threads) (ls : List (Core Desk)) (w
           (it.0, rw begun_is it.1)
 
       starts : On (entry ∷ []) next
-      starts = record {
-        loops = Ls;
-        workers = Ws;
-        bag = bag;
-        hand = hand;
-        runs = run_one w (beside r' Ls Ws) (step.Start (hand n)) line' (entry ∷ []) used used (
-          Taken o,
-          (hands.held n (Taken o) held refl).1,
-          (
-            q.setting,
-            q.loop,
-            sharing q.loop (started q.loop.shared c),
-            true,
-            it.at_core,
-            ((sym begun.0, refl), refl, refl),
-            (refl, ap (λ x. beside x Ls Ws) after),
-          ),
-        )
-            (λ i. silent_as entry (line.Start n (start.Begun (job_of o))) told (λ j. refl) i) (once_quiet used line' (λ k. refl));
-        alike =
-            rw after (rw (set_same t.steps place it.step it.at_step) at (alike_set place t.world.loops t.steps ls (core g m) it.step _ begun.1 alike));
-        hands = rw after (hand_goes all bag hand t.world.workers ws hands n (Taken o) (Started o) held refl);
-        jobs = ap (λ (x : World). x.jobs) after ∙ jobs_are;
-        room = more_room (entry ∷ []);
-      } where
-        it : AreAlikeAt place (core g l) t.steps ls
-        it = alike_at place t.world.loops t.steps ls (core g l) alike at
+      starts =
+          same_bag (entry ∷ []) next Ls Ws
+          (run_one w (beside r' Ls Ws) (step.Start (hand n)) line' (entry ∷ []) used used (
+            Taken o,
+            (hands.held n (Taken o) held refl).1,
+            (
+              q.setting,
+              q.loop,
+              sharing q.loop (started q.loop.shared c),
+              true,
+              it.at_core,
+              ((sym begun.0, refl), refl, refl),
+              (refl, ap (λ x. beside x Ls Ws) after),
+            ),
+          )
+          (λ i. silent_as entry (line.Start n (start.Begun (job_of o))) told (λ j. refl) i) (once_quiet used line' (λ k. refl)))
+          (rw after (rw (set_same t.steps place it.step it.at_step) at (alike_set place t.world.loops t.steps ls (core g m) it.step _ begun.1 alike)))
+          (rw after (hand_goes all bag hand t.world.workers ws hands n (Taken o) (Started o) held refl)) (ap (λ (x : World). x.jobs) after) where
+            it : AreAlikeAt place (core g l) t.steps ls
+            it = alike_at place t.world.loops t.steps ls (core g l) alike at
 
-        q : Core Desk
-        q = it.core
+            q : Core Desk
+            q = it.core
 
-        begun : Begun it.step q
-        begun = begun_at it.step q it.at_core it.alike
+            begun : Begun it.step q
+            begun = begun_at it.step q it.at_core it.alike
 
-        line' : LogEntry
-        line' = line.Start (hand n) (start.Begun (job_of o))
+            line' : LogEntry
+            line' = line.Start (hand n) (start.Begun (job_of o))
 
-        Ls : List (Core Desk)
-        Ls = slice_set ls place (core q.setting (sharing q.loop (started q.loop.shared c)))
+            Ls : List (Core Desk)
+            Ls = slice_set ls place (core q.setting (sharing q.loop (started q.loop.shared c)))
 
-        Ws : List Worker
-        Ws = slice_set ws (hand n) (Started o)
+            Ws : List Worker
+            Ws = slice_set ws (hand n) (Started o)
 
     -- a job is dropped: the worker that stands for this one keeps it
     drops : (n : ℕ) (o : WorkOrder) → slice_get t.world.workers n ≡ Some (Taken o) → entry ≡ line.Start n (start.Dropped (job_of o)) → r' ≡ with_worker_at t.world n Idle → On (entry ∷ []) next
@@ -386,36 +346,29 @@ module _ (joins : RunsJoin) (all : ℕ) (t : Threads) (ls : List (Core Desk)) (w
 
     -- a job is finished
     finishes : (n : ℕ) (state : Worker) → slice_get t.world.workers n ≡ Some state → FinishesJob t.world n state entry r' → On (entry ∷ []) next
-    finishes n (Started o) held h = record {
-      loops = ls;
-      workers = Ws;
-      bag = bag;
-      hand = hand;
-      runs = run_one w (beside r' ls Ws) (step.Finish (hand n)) told (entry ∷ []) used used (
-        Started o,
-        (hands.held n (Started o) held refl).1,
-        record {
-          end = h.end;
-          ending = h.ending;
-          replies = h.replies;
-          right = h.right;
-          tells = h.tells;
-          waiting = h.waiting;
-          told = refl;
-          after = ap (λ x. beside x ls Ws) h.after;
-        },
-      )
-          (λ l. silent_as entry (line.Finish n (finish.Ended (job_of o) h.ending)) h.told (λ i. refl) l) (once_quiet used told (λ k. refl));
-      alike = rw h.after alike;
-      hands = rw h.after (hand_goes all bag hand t.world.workers ws hands n (Started o) Idle held refl);
-      jobs = ap (λ (x : World). x.jobs) h.after ∙ jobs_are;
-      room = more_room (entry ∷ []);
-    } where
-      told : LogEntry
-      told = line.Finish (hand n) (finish.Ended (job_of o) h.ending)
+    finishes n (Started o) held h =
+        same_bag (entry ∷ []) next ls Ws
+        (run_one w (beside r' ls Ws) (step.Finish (hand n)) told (entry ∷ []) used used (
+          Started o,
+          (hands.held n (Started o) held refl).1,
+          record {
+            end = h.end;
+            ending = h.ending;
+            replies = h.replies;
+            right = h.right;
+            tells = h.tells;
+            waiting = h.waiting;
+            told = refl;
+            after = ap (λ x. beside x ls Ws) h.after;
+          },
+        )
+        (λ l. silent_as entry (line.Finish n (finish.Ended (job_of o) h.ending)) h.told (λ i. refl) l) (once_quiet used told (λ k. refl)))
+        (rw h.after alike) (rw h.after (hand_goes all bag hand t.world.workers ws hands n (Started o) Idle held refl)) (ap (λ (x : World). x.jobs) h.after) where
+          told : LogEntry
+          told = line.Finish (hand n) (finish.Ended (job_of o) h.ending)
 
-      Ws : List Worker
-      Ws = slice_set ws (hand n) Idle
+          Ws : List Worker
+          Ws = slice_set ws (hand n) Idle
     finishes n Idle held h = only (line.Finish n finish.Nothing) (λ l. refl) h
     finishes n (Taken o) held h = only (line.Finish n finish.Nothing) (λ l. refl) h
 
@@ -450,19 +403,10 @@ module _ (joins : RunsJoin) (all : ℕ) (t : Threads) (ls : List (Core Desk)) (w
       now_sent moves one =
           let q : Core Desk = core it.core.setting (sharing it.core.loop m.shared) in
           let done = run_send t.world ws n used ls it.core m.shared a it.at_core below moves in
-          record {
-            loops = slice_set ls n q;
-            workers = ws;
-            bag = bag;
-            hand = hand;
-            runs =
-                rw (ap (λ x. beside x (slice_set ls n q) ws) after)
-                (record { steps = done.steps; lines = done.lines; run = done.run; logs = λ i. done.logs i ∙ silent i; once = done.once });
-            alike = alike_now q one;
-            hands = workers_now;
-            jobs = jobs ∙ jobs_are;
-            room = more_room (entry ∷ []);
-          }
+          same_bag (entry ∷ []) next (slice_set ls n q) ws
+          (rw (ap (λ x. beside x (slice_set ls n q) ws) after)
+          (record { steps = done.steps; lines = done.lines; run = done.run; logs = λ i. done.logs i ∙ silent i; once = done.once }))
+          (alike_now q one) workers_now jobs
 
       sends : (ok : Bool) → DeskGets l.shared a ok m.shared → On (entry ∷ []) next
       sends false moves =

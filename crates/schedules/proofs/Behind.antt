@@ -1,13 +1,8 @@
 -- A loop whose step is under way, as the threads go on: the step can yet be taken as a whole.
-use Rattle.std.proofs.Common.{◌≡◌, ℕ, ◌<◌, ◌≤◌, true, inl, inr, ◌⊎◌, List, [], ◌∷◌, ◌++◌, refl, sym, ap, subst, ◌∙◌, append_assoc, append-nil}
-use Rattle.limits.specs.declared.TheConstants.{MAX_ASYNCS}
-use Rattle.phases.specs.State.{Setting, Loop, Core}
-use Rattle.phases.specs.Step.{StepsWith, sharing, over}
+use Rattle.schedules.proofs.Words.{Access, AccessMoves, ap, append-nil, append_assoc, Core, core, Desk, desk_calls, DeskGets, inl, inr, is_open_request, List}
+use Rattle.schedules.proofs.Words.{Loop, MAX_ASYNCS, over, Reach, refl, Setting, sharing, started, StepsBy, StepsWith, StepUnderway, subst, sym, true, ℕ, []}
+use Rattle.schedules.proofs.Words.{◌++◌, ◌<◌, ◌∙◌, ◌∷◌, ◌≡◌, ◌≤◌, ◌⊎◌}
 use Rattle.reduction.proofs.StepByStep.{steps_join}
-use Rattle.desk.specs.Desk.{Desk, desk_calls, is_open_request, started, DeskGets}
-use Rattle.world.specs.World.{core}
-use Rattle.schedules.specs.Accesses.{Access, AccessMoves, Reach, StepsBy}
-use Rattle.schedules.specs.Schedule.{StepUnderway}
 use Rattle.schedules.proofs.Alike.{IsBehind, AreLate}
 use Rattle.schedules.proofs.Numbers.{step_opens, others_front}
 use Rattle.schedules.proofs.SendsMoveBehind.{Got, Gets, gets_open, gets_started, moves_first, TakesFirst, takes_first, no_take_behind}

@@ -1,27 +1,23 @@
 -- How a call of a guest goes at the requests and at the shared object, with the free slot that it takes, or the request that was open.
-use Rattle.std.proofs.Common.{◌≡◌, ℕ, ◌+◌, ◌<◌, ◌⊎◌, inl, inr, Bool, true, false, cond, List, [], ◌∷◌, Option, Some, None, refl, sym, ap, subst, ◌∙◌}
+use Rattle.schedules.proofs.Words.{Answered, ap, Bool, CallMoves, Calls, Cancelled, cancels_won, cond, false, GuestCall, HandedOut, in_state, inl, inr}
+use Rattle.schedules.proofs.Words.{is_free_slot, is_settled, IsBeside, leaves_all, List, Loop, None, Open, opens, Option, over, refl, Request, request_of}
+use Rattle.schedules.proofs.Words.{Requests, Setting, Some, Stage, State, StepDid, steps_keep, StepsWith, subst, sym, TakesOwn, took, tried, true, unmoved}
+use Rattle.schedules.proofs.Words.{with_requests, with_stage, with_work, without_request, WorkOrder, ℕ, [], ◌+◌, ◌<◌, ◌∙◌, ◌∷◌, ◌≡◌, ◌⊎◌}
 use Rattle.limits.specs.declared.TheConstants.{MAX_REQUEST_NUMBER}
 use Rattle.syntax.specs.declared.types.Value.{Value}
 use Rattle.syntax.specs.declared.types.Value.TheVariants.{I32}
 use Rattle.reduction.specs.Run.{HostCall}
-use Rattle.reduction.proofs.StepByStep.{steps_keep}
 use Rattle.imports.specs.declared.call.Call.{Call}
 use Rattle.imports.specs.declared.call.Call.TheVariants.{QueueWork, Cancel}
 use Rattle.order.specs.Uv.Bytes.{taken_out}
-use Rattle.order.specs.Work.{WorkOrder}
-use Rattle.events.specs.declared.did.StepDid.{StepDid}
 use Rattle.events.specs.declared.phase.EntryKind.{EntryKind}
 use Rattle.events.specs.declared.phase.EntryKind.TheVariants as kind
 use Rattle.phases.specs.declared.entry.Entry.{Entry}
-use Rattle.phases.specs.Requests.{Stage, Open, HandedOut, Answered, Cancelled, Request, Requests, request_of, with_stage, without_request, with_work, is_free_slot, is_settled}
-use Rattle.phases.specs.State.{Setting, State, Loop}
-use Rattle.phases.specs.Calls.{Calls}
-use Rattle.phases.specs.Guests.{GuestCall, GuestStep, GuestSteps}
-use Rattle.phases.specs.Host.{CallStep, CancelsFrom, Opens, next_work, with_requests, request_cancel_state, stage_cancel_state}
-use Rattle.phases.specs.Step.{StepsWith, RunsFrom, in_state, over, begun}
-use Rattle.phases.proofs.CancelFates.{IsBeside, unmoved, tried, took}
-use Rattle.phases.proofs.CallMoves.{CallMoves, MayOpen, leaves_all, opens, cancels_won, call_moves, queue_fate}
-use Rattle.phases.proofs.StepGoes.{EntryGoes, skips, runs, works, StepGoes, rests, enters, TakesOwn, same_requests, step_goes}
+use Rattle.phases.specs.Guests.{GuestStep, GuestSteps}
+use Rattle.phases.specs.Host.{CallStep, CancelsFrom, Opens, next_work, request_cancel_state, stage_cancel_state}
+use Rattle.phases.specs.Step.{RunsFrom, begun}
+use Rattle.phases.proofs.CallMoves.{MayOpen, call_moves, queue_fate}
+use Rattle.phases.proofs.StepGoes.{EntryGoes, skips, runs, works, StepGoes, rests, enters, same_requests, step_goes}
 
 -- It opens no request and cancels none; it opens the next one, in a free slot; or it cancels one that was not settled.
 pub data CallDone {S : Type 0} (calls : Calls S) (g : Setting) (old new : Requests × S) : Type 0 where

@@ -1,12 +1,7 @@
 -- Workers that take one job after another, and workers that take one job each.
-use Rattle.std.proofs.Common.{◌≡◌, ◌≢◌, ℕ, zero, suc, ◌+◌, ◌<◌, ◌≤◌, ◌==◌, Bool, true, false, cond, inl, inr, ◌⊎◌, List, [], ◌∷◌, ◌++◌, length, replicate, Option}
-use Rattle.std.proofs.Common.{Some, None, append_assoc, refl, sym, ap, ◌∙◌, arith}
-use Rattle.std.specs.Prelude.{slice_get, slice_set}
-use Rattle.std.proofs.lemmas.Bool.{cases_eq, eq-eqb, ne_eqb}
-use Rattle.std.proofs.lemmas.List.{length-set, length_push}
-use Rattle.order.specs.Work.{WorkOrder}
-use Rattle.tallies.proofs.Places.{set_here, set_apart}
-use Rattle.world.specs.World.{Worker, Idle, Taken}
+use Rattle.schedules.proofs.Words.{ap, append_assoc, arith, Bool, cases_eq, cond, eq-eqb, false, Idle, inl, inr, length, length-set, length_push, List, ne_eqb}
+use Rattle.schedules.proofs.Words.{None, Option, refl, replicate, set_apart, set_here, slice_get, slice_set, Some, suc, sym, Taken, true, Worker, WorkOrder}
+use Rattle.schedules.proofs.Words.{zero, ℕ, [], ◌++◌, ◌+◌, ◌<◌, ◌==◌, ◌∙◌, ◌∷◌, ◌≡◌, ◌≢◌, ◌≤◌, ◌⊎◌}
 
 -- a place of a list after one was set
 pub set_cases : {X : Type 0} (xs : List X) (n k : ℕ) (v y x : X) → slice_get xs n ≡ Some y → slice_get (slice_set xs n v) k ≡ Some x → ((k ≡ n) × (x ≡ v)) ⊎ ((k ≢ n) × (slice_get xs k ≡ Some x))

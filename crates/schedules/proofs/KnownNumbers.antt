@@ -1,27 +1,16 @@
 -- What stands in a world: numbers that its loops gave, and no others.
-use Rattle.std.proofs.Common.{◌≡◌, ◌≢◌, ℕ, zero, suc, ◌≤◌, ◌==◌, Bool, true, false, inl, inr, ◌⊎◌, List, [], ◌∷◌, ◌++◌, length, replicate, Option, Some}
-use Rattle.std.proofs.Common.{None, refl, sym, ap, subst, ◌∙◌, arith, MatchBool}
-use Rattle.std.specs.Prelude.{slice_get, slice_set}
-use Rattle.limits.specs.declared.TheConstants.{MAX_JOBS}
-use Rattle.order.specs.Work.{WorkOrder}
+use Rattle.schedules.proofs.Words.{after_clock, Answer, Answered, answered, ap, AreInPlace, arith, Bool, Core, core, Desk, desk_calls, event_keeps, false, Idle}
+use Rattle.schedules.proofs.Words.{in_state, inl, inr, is_open_stage, length, List, LogEntry, Loop, MatchBool, MAX_JOBS, next_order_of, None, Only}
+use Rattle.schedules.proofs.Words.{opening_loop, opening_world, Option, OrderAsked, PostsOrder, refl, replicate, Setting, slice_get, slice_set, Some, Started}
+use Rattle.schedules.proofs.Words.{State, Step, Stepped, subst, suc, sym, Taken, true, UnlessFailed, with_loop, with_requests, with_worker_at, Worker}
+use Rattle.schedules.proofs.Words.{WorkOrder, World, WorldStep, zero, ℕ, [], ◌++◌, ◌==◌, ◌∙◌, ◌∷◌, ◌≡◌, ◌≢◌, ◌≤◌, ◌⊎◌}
 use Rattle.tallies.proofs.Requests.{either}
-use Rattle.phases.specs.History.{Stepped, OrderAsked, CancelAnswered}
-use Rattle.phases.specs.Outside.{next_order_of, after_clock, answered}
-use Rattle.phases.specs.Requests.{Answered, is_open_stage}
-use Rattle.phases.specs.Host.{with_requests}
-use Rattle.phases.specs.State.{Setting, State, Loop, Core}
-use Rattle.phases.specs.Step.{in_state}
+use Rattle.phases.specs.History.{CancelAnswered}
 use Rattle.phases.proofs.OrdersHandedOnce.{IsLowest, handed_is}
-use Rattle.phases.proofs.StepsByCalls.{event_keeps}
-use Rattle.desk.specs.Desk.{Desk, desk_calls}
-use Rattle.world_log.specs.declared.step.Step.{Step}
 use Rattle.world_log.specs.declared.step.Step.TheVariants as step
-use Rattle.world_log.specs.declared.entry.LogEntry.{LogEntry}
 use Rattle.world_log.specs.declared.entry.LogEntry.TheVariants as line
 use Rattle.world_log.specs.declared.outcome.PostOutcome.TheVariants as post
-use Rattle.world.specs.Laws.{AreInPlace}
-use Rattle.world.specs.World.{World, Worker, Idle, Taken, Started, Answer, Only, UnlessFailed, PostsOrder, WorkerTakesJob, StartsJob, FinishesJob, CollectsFrom}
-use Rattle.world.specs.World.{WorldStep, opening_world, opening_loop, with_loop, with_worker_at, core}
+use Rattle.world.specs.World.{WorkerTakesJob, StartsJob, FinishesJob, CollectsFrom}
 use Rattle.world.proofs.Sets.{made_of}
 use Rattle.schedules.proofs.Hands.{set_cases}
 use Rattle.schedules.proofs.Numbers.{AreOwn, Numbered, Kept, own_found, keeps_numbered, staged}

@@ -1,17 +1,9 @@
 -- The numbers of a loop's requests: they rise, and no order has one that was not given yet.
-use Rattle.std.proofs.Common.{◌≡◌, ℕ, ◌+◌, ◌≤◌, Bool, true, false, cond, not, List, [], ◌∷◌, ◌++◌, map, Some, refl, sym, ap, subst, ◌∙◌, arith, append_assoc, append-nil}
-use Rattle.std.specs.List.{filter, find}
-use Rattle.instance.specs.Store.{Store}
-use Rattle.events.specs.declared.did.StepDid.{StepDid}
-use Rattle.phases.specs.Guests.{GuestCall}
-use Rattle.phases.specs.Requests.{Stage, Request, Requests, has_number, in_stage, with_stage, without_request, is_open_stage}
-use Rattle.phases.specs.State.{Setting, State, Loop}
-use Rattle.phases.specs.Step.{over}
-use Rattle.phases.proofs.CancelFates.{IsBeside, unmoved, tried, sent, took}
-use Rattle.phases.proofs.CallMoves.{CallMoves, leaves_all, opens, cancels_won}
+use Rattle.schedules.proofs.Words.{Access, ap, append-nil, append_assoc, arith, Bool, CallMoves, Cancels, cancels_won, cond, Desk, false, filter, find}
+use Rattle.schedules.proofs.Words.{GuestCall, has_number, in_stage, is_open_stage, IsBeside, leaves_all, List, listed_calls, Loop, map, not, Opens, opens, over}
+use Rattle.schedules.proofs.Words.{refl, Request, Requests, Sends, sent, Setting, Some, Stage, State, StepDid, StepsBy, Store, subst, sym, Takes, took, tried}
+use Rattle.schedules.proofs.Words.{true, unmoved, with_stage, without_request, ℕ, [], ◌++◌, ◌+◌, ◌∙◌, ◌∷◌, ◌≡◌, ◌≤◌}
 use Rattle.phases.proofs.StepsByCalls.{CallFate, changes_nothing, opens_one, cancels_one, IsKeptInSteps, IsKeptBy, step_keeps}
-use Rattle.desk.specs.Desk.{Desk}
-use Rattle.schedules.specs.Accesses.{Access, Opens, Cancels, Sends, Takes, listed_calls, StepsBy}
 use Rattle.schedules.proofs.StartsMoveBefore.{OpensOther, OpenOthers}
 
 -- the orders are of the loop of this number, and have numbers up to the last one

@@ -1,15 +1,9 @@
 -- What is counted in the log of one loop.
-use Rattle.std.proofs.Common.{◌≡◌, ℕ, ◌+◌, ◌≤◌, ◌==◌, Bool, true, false, cond, ◌&&◌, List, [], ◌∷◌, refl, sym, ap, ◌∙◌, arith}
-use Rattle.std.specs.List.{count_by, filter}
-use Rattle.std.proofs.lemmas.List.Sums.{sum_by-cons}
-use Rattle.phases.specs.State.{Setting}
+use Rattle.schedules.proofs.Words.{ap, AreInPlace, arith, Atom, Bool, cond, count_by, false, filter, is_of_loop, IsAsInWorld, jobs_in, List, LogEntry}
+use Rattle.schedules.proofs.Words.{opening_threads, refl, Setting, sum_by-cons, sym, Threads, ThreadsRun, true, ℕ, [], ◌&&◌, ◌+◌, ◌==◌, ◌∙◌, ◌∷◌, ◌≡◌, ◌≤◌}
 use Rattle.events.specs.declared.phase.EntryKind.TheVariants as kind
-use Rattle.world_log.specs.declared.entry.LogEntry.{LogEntry}
 use Rattle.world_log.specs.declared.entry.LogEntry.TheVariants as line
-use Rattle.world.specs.Laws.{AreInPlace, is_after}
-use Rattle.world.specs.Laws.{AfterOnceInLog as IsAfterOnceInWorld}
-use Rattle.schedules.specs.Laws.{IsAsInWorld, is_of_loop, jobs_in}
-use Rattle.schedules.specs.Schedule.{Threads, Atom, ThreadsRun, opening_threads}
+use Rattle.world.specs.Laws.{is_after, AfterOnceInLog as IsAfterOnceInWorld}
 
 -- what passes one test alone is not lost by the other
 counted : {X : Type 0} (p q : X → Bool) (xs : List X) → ((x : X) → q x ≡ false → p x ≡ false) → count_by p (filter q xs) ≡ count_by p xs

@@ -1,34 +1,17 @@
 -- What loops did in their threads, one loop after another, as one run of a world.
-use Rattle.std.proofs.Common.{◌≡◌, ◌≢◌, ℕ, zero, suc, ◌+◌, ◌<◌, ◌≤◌, ◌==◌, ◌&&◌, Bool, true, false, cond}
-use Rattle.std.proofs.Common.{List, [], ◌∷◌, ◌++◌, length, replicate, Option, Some, None, refl, sym, ap, subst, ◌∙◌, arith, append-nil}
-use Rattle.std.specs.Prelude.{slice_get, slice_index, nat_lt}
-use Rattle.std.specs.List.{count_by}
-use Rattle.std.proofs.lemmas.Bool.{eqb-true, eq-eqb}
+use Rattle.schedules.proofs.Words.{Answered, answered, ap, append-nil, AreInPlace, AreInThread, arith, Bool, Calls, ClockRaised, cond, core, count_by, Desk}
+use Rattle.schedules.proofs.Words.{EndOffered, eq-eqb, eqb-true, Event, EventStep, false, filter-append, handed_in, has_number, HasLoop, Idle, in_stage}
+use Rattle.schedules.proofs.Words.{in_state, is_failed, is_full, is_of_loop, is_pending, is_settled, IsAsInWorld, IsInThread, IsLawful, IsOpening, last_in}
+use Rattle.schedules.proofs.Words.{length, lines_of, List, log_of, LogEntry, Loop, map_get, MAX_ASYNCS, MovedBeside, nat_lt, next_order_of, None, opening_loop}
+use Rattle.schedules.proofs.Words.{opening_threads, opening_world, Option, OrderAsked, over, Passed, PassesThrough, refl, replicate, Request, RunsJoin, Setting}
+use Rattle.schedules.proofs.Words.{slice_get, slice_index, Some, StandBehind, State, Step, Stepped, subst, suc, sum_by-append, sym, TakesReplyTo, times, true}
+use Rattle.schedules.proofs.Words.{WorkEnd, WorkOrder, World, WorldRun, zero, ℕ, [], ◌&&◌, ◌++◌, ◌+◌, ◌<◌, ◌==◌, ◌∙◌, ◌∷◌, ◌≡◌, ◌≢◌, ◌≤◌}
 use Rattle.std.proofs.lemmas.List.{length-replicate}
-use Rattle.std.proofs.lemmas.List.Elements.{filter-append}
-use Rattle.std.proofs.lemmas.List.Sums.{sum_by-append}
-use Rattle.limits.specs.declared.TheConstants.{MAX_ASYNCS}
-use Rattle.tallies.specs.Requests.{times, is_pending, last_in}
 use Rattle.tallies.proofs.Counts.{zeros}
-use Rattle.tallies.proofs.Places.{map_get}
-use Rattle.order.specs.Work.{WorkOrder, WorkEnd}
-use Rattle.phases.specs.Calls.{Calls, IsLawful}
-use Rattle.phases.specs.History.{Event, Stepped, OrderAsked, EndOffered, ClockRaised, MovedBeside, EventStep, IsOpening}
-use Rattle.phases.specs.Outside.{is_failed, next_order_of, TakesReplyTo, answered}
-use Rattle.phases.specs.Requests.{Answered, Request, has_number, in_stage, is_settled}
-use Rattle.phases.specs.State.{Setting, Loop, State}
-use Rattle.phases.specs.Step.{in_state, over}
 use Rattle.phases.proofs.Asyncs.{Few}
-use Rattle.desk.specs.Desk.{Desk, new_desk}
-use Rattle.desk.specs.Laws.{Passed, PassesThrough}
-use Rattle.world_log.specs.declared.step.Step.{Step}
-use Rattle.world_log.specs.declared.entry.LogEntry.{LogEntry}
-use Rattle.world.specs.Laws.{RunsJoin, AreInPlace}
-use Rattle.world.specs.World.{World, Idle, WorldRun, HasLoop, core, opening_world, opening_loop}
-use Rattle.serve.specs.HandedOut.{handed_in}
-use Rattle.schedules.specs.Laws.{IsAsInWorld, IsOfThreads, log_of, is_of_loop, is_full}
-use Rattle.schedules.specs.Schedule.{opening_threads}
-use Rattle.schedules.specs.Together.{lines_of, lines_along, IsInThread, AreInThread, LoopDid, IsOneRun, StandsBehind, StandBehind, AllDidInThread}
+use Rattle.desk.specs.Desk.{new_desk}
+use Rattle.schedules.specs.Laws.{IsOfThreads}
+use Rattle.schedules.specs.Together.{lines_along, LoopDid, IsOneRun, StandsBehind, AllDidInThread}
 use Rattle.schedules.proofs.OwnDesk.{Stands, EndsSo}
 use Rattle.schedules.proofs.OwnRequests.{FitsOne, FitsAt, map_member, find_member, place_of, same_order}
 use Rattle.schedules.proofs.Along.{NextIs, is_over, is_none, is_some, next_is, IsApart, IsShut, shut_along, event_grows, grows_along, apart_along}
@@ -344,8 +327,7 @@ module _ {S : Type 0} (calls : Calls S) (lawful : IsLawful calls) (joins : RunsJ
       (λ i more. one.goes.beside.replies i (λ same. omega (arith, here, more, same))) ready.3 in
       runs_on k g settings d dids w here one.handed one.next (all_count dids) one.goes
       (runs_all settings dids (k + 1) one.goes.world one.next all.1 still one.goes.at.jobs one.goes.at.idle one.goes.at.room)
-  runs_all [] (d ∷ dids) k w next all ready jobs idle room = absurd all
-  runs_all (g ∷ settings) [] k w next all ready jobs idle room = absurd all
+  runs_all _ _ k w next all ready jobs idle room = absurd all
 
   -- as all begin
   ready_from : (k : ℕ) (settings : List Setting) (w : World)

@@ -1,24 +1,15 @@
 -- What a loop does over its object, it does at a desk where each request that was handed out, and is never cancelled, was started
 -- at once.
-use Rattle.std.proofs.Common.{◌≡◌, ℕ, ◌+◌, ◌<◌, ◌≤◌, ◌==◌, ◌&&◌, ◌⊎◌, inl, inr, Bool, true, false, cond, List, [], ◌∷◌, ◌++◌, length, Option, Some, None, refl, sym, ap, ◌∙◌, arith}
-use Rattle.std.specs.Prelude.{slice_index, slice_set}
-use Rattle.std.proofs.lemmas.Bool.{cases_lt, eq-eqb, ne_eqb}
-use Rattle.limits.specs.declared.TheConstants.{MAX_ASYNCS}
-use Rattle.tallies.specs.Requests.{times, is_pending}
-use Rattle.tallies.specs.Counts.{raised}
+use Rattle.schedules.proofs.Words.{ap, arith, Bool, Calls, cases_lt, Chain, cond, Desk, desk_calls, eq-eqb, false, GuestCall, inl, inr, is_open_request}
+use Rattle.schedules.proofs.Words.{is_pending, IsLawful, length, List, Loop, MAX_ASYNCS, ne_eqb, None, Option, over, raised, refl, Sent, Setting, slice_index}
+use Rattle.schedules.proofs.Words.{slice_set, Some, Stays, step_retraced, StepDid, StepsWith, sym, TakesOwn, times, ToCancel, ToOpen, ToSend, Touch, Touches}
+use Rattle.schedules.proofs.Words.{true, View, ℕ, [], ◌&&◌, ◌++◌, ◌+◌, ◌<◌, ◌==◌, ◌∙◌, ◌∷◌, ◌≡◌, ◌≤◌, ◌⊎◌}
 use Rattle.tallies.proofs.Counts.{raised-there}
 use Rattle.tallies.proofs.Requests.{times_hit, is_request_itself}
-use Rattle.events.specs.declared.did.StepDid.{StepDid}
-use Rattle.phases.specs.Calls.{Calls, IsLawful}
-use Rattle.phases.specs.Guests.{GuestCall}
-use Rattle.phases.specs.State.{Setting, Loop}
-use Rattle.phases.specs.Step.{StepsWith, over}
-use Rattle.phases.specs.View.{View, Opened, Cancelled, Sent, Taken}
+use Rattle.phases.specs.View.{Opened, Cancelled, Taken}
 use Rattle.phases.proofs.Asyncs.{Few, async_below}
-use Rattle.phases.proofs.CallMoves.{Touch, Stays, ToOpen, ToCancel, ToSend, Touches}
-use Rattle.phases.proofs.Mirroring.{Chain, step_retraced}
-use Rattle.phases.proofs.StepGoes.{TakesOwn, Takes}
-use Rattle.desk.specs.Desk.{Desk, desk_calls, is_open_request, opened, cancelled, found_started, sent_own, taken, DeskCancels, DeskSends, DeskTakes}
+use Rattle.phases.proofs.StepGoes.{Takes}
+use Rattle.desk.specs.Desk.{opened, cancelled, found_started, sent_own, taken, DeskCancels, DeskSends, DeskTakes}
 use Rattle.schedules.proofs.ViewsGrow.{IsWide, Grows, opened_grows, touch_grows, chain_grows, takes_grow}
 
 -- what is in a list that got it

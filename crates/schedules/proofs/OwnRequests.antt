@@ -1,20 +1,13 @@
 -- What holds of a loop's outstanding requests, by what was handed out and what workers have started.
-use Rattle.std.proofs.Common.{◌≡◌, ◌≢◌, ℕ, ◌+◌, ◌<◌, ◌≤◌, ◌==◌, ◌&&◌, ◌||◌, ◌⊎◌, inl, inr, Bool, true, false, cond, not, List, [], ◌∷◌, ◌++◌, map, Some, refl, sym, ap, subst, ◌∙◌, arith}
-use Rattle.std.specs.Prelude.{nat_lt, slice_get}
-use Rattle.std.specs.List.{filter, find, list_any}
-use Rattle.std.proofs.lemmas.Bool.{cases_lt, eqb-true, eq-eqb, lt-ltb}
-use Rattle.tallies.specs.Requests.{times, is_request, is_pending, last_in}
-use Rattle.tallies.proofs.Requests.{times_miss, pushed, last_in-push_other, last_in-push_same, same_request}
-use Rattle.tallies.proofs.Filtered.{Member}
-use Rattle.order.specs.Work.{WorkOrder}
-use Rattle.phases.specs.Calls.{Calls, IsLawful}
-use Rattle.phases.specs.Requests.{Stage, Open, HandedOut, Answered, Cancelled, Request, Requests, has_number}
-use Rattle.phases.specs.Requests.{request_of, in_stage, with_stage, with_work, is_free_slot, is_settled, is_open_stage}
-use Rattle.phases.specs.State.{Setting}
-use Rattle.phases.specs.View.{View}
-use Rattle.phases.specs.View.{Sent}
-use Rattle.phases.proofs.CancelFates.{IsBeside, unmoved, tried, sent, took}
-use Rattle.world.specs.World.{Worker, Started}
+use Rattle.schedules.proofs.Words.{ap, arith, Bool, Calls, Cancelled, cases_lt, cond, eq-eqb, eqb-true, false, filter, find, HandedOut, has_number, in_stage}
+use Rattle.schedules.proofs.Words.{inl, inr, is_free_slot, is_open_stage, is_pending, is_request, is_settled, IsBeside, IsLawful, last_in, List, map, Member}
+use Rattle.schedules.proofs.Words.{nat_lt, not, Open, pushed, refl, Request, request_of, Requests, same_request, Sent, sent, Setting, slice_get, Some, Stage}
+use Rattle.schedules.proofs.Words.{Started, subst, sym, times, times_miss, took, tried, true, unmoved, View, with_stage, with_work, Worker, WorkOrder, ℕ, []}
+use Rattle.schedules.proofs.Words.{◌&&◌, ◌++◌, ◌+◌, ◌<◌, ◌==◌, ◌∙◌, ◌∷◌, ◌≡◌, ◌≢◌, ◌≤◌, ◌⊎◌}
+use Rattle.std.proofs.Common.{◌||◌}
+use Rattle.std.specs.List.{list_any}
+use Rattle.std.proofs.lemmas.Bool.{lt-ltb}
+use Rattle.tallies.proofs.Requests.{last_in-push_other, last_in-push_same}
 use Rattle.schedules.proofs.FreeSlots.{CallDone, keeps_all, opens_free, cancels_open, IsKept}
 
 -- what is in a list that was changed
@@ -66,15 +59,11 @@ all_three _ _ _ e f g = absurd (cc)
 -- a settled stage is neither of the others
 pub settled_not_open : (s : Stage) → is_settled s ≡ true → is_open_stage s ≡ false
 settled_not_open Open e = absurd (cc)
-settled_not_open HandedOut e = refl
-settled_not_open (Answered end) e = refl
-settled_not_open Cancelled e = refl
+settled_not_open _ e = refl
 
 pub open_not_settled : (s : Stage) → is_open_stage s ≡ true → is_settled s ≡ false
 open_not_settled Open e = refl
-open_not_settled HandedOut e = absurd (cc)
-open_not_settled (Answered end) e = absurd (cc)
-open_not_settled Cancelled e = absurd (cc)
+open_not_settled _ e = absurd (cc)
 
 pub same_order : (m : ℕ) (s : Stage) (q : Request) → (in_stage m s q).order ≡ q.order
 same_order m s q = by (has_number m q) where

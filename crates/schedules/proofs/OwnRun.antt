@@ -1,43 +1,22 @@
 -- What a loop did in its thread, as steps of a world: each order is taken by a worker of its own as it is handed out.
-use Rattle.std.proofs.Common.{◌≡◌, ◌≢◌, ℕ, ◌+◌, ◌<◌, ◌≤◌, ◌==◌, ◌&&◌, ◌⊎◌, inl, inr, Bool, true, false, cond}
-use Rattle.std.proofs.Common.{List, [], ◌∷◌, ◌++◌, length, length-set, Some, None, refl, sym, ap, ◌∙◌, arith, MatchBool}
-use Rattle.std.specs.Prelude.{slice_get, slice_set}
-use Rattle.std.specs.List.{count_by}
-use Rattle.std.proofs.lemmas.Bool.{cases_eq, cases_lt, eq-eqb, ne_eqb}
-use Rattle.limits.specs.declared.TheConstants.{MAX_JOBS}
-use Rattle.tallies.specs.Requests.{times, is_pending}
-use Rattle.tallies.proofs.Places.{set_here, set_apart}
-use Rattle.tallies.proofs.Requests.{times_grow, pushed}
-use Rattle.order.specs.Work.{WorkOrder, WorkEnd, IsEndOf}
-use Rattle.events.specs.declared.did.StepDid.{StepDid}
+use Rattle.schedules.proofs.Words.{after_clock, Answer, Answered, answered, ap, arith, Bool, Calls, Cancelled, cases_eq, cases_lt, ClockRaised, cond, core}
+use Rattle.schedules.proofs.Words.{count_by, Desk, entry_told, eq-eqb, EventStep, Failed, false, GuestCall, HandedOut, has_number, HasLoop, Idle, in_state, inl}
+use Rattle.schedules.proofs.Words.{inr, is_failed, is_full, is_of_loop, is_open_request, is_open_stage, is_pending, is_settled, IsLawful, job_of, JobEnd}
+use Rattle.schedules.proofs.Words.{length, length-set, lines_of, List, log_of, LogEntry, Loop, lowest_open, MatchBool, MAX_JOBS, Member, ne_eqb, next_order_of}
+use Rattle.schedules.proofs.Words.{None, Only, Open, Over, over, PostsOrder, pushed, refl, Request, Requests, Running, set_apart, set_here, Setting, slice_get}
+use Rattle.schedules.proofs.Words.{slice_set, Some, Stage, Started, started, Status, Step, StepDid, Stepped, sym, Taken, TakesReplyTo, TellsEnd, times}
+use Rattle.schedules.proofs.Words.{times_grow, true, UnlessFailed, with_loop, with_replies, with_requests, with_stage, with_worker_at, WorkEnd, Worker}
+use Rattle.schedules.proofs.Words.{WorkOrder, World, WorldRun, WorldStep, ℕ, [], ◌&&◌, ◌++◌, ◌+◌, ◌<◌, ◌==◌, ◌∙◌, ◌∷◌, ◌≡◌, ◌≢◌, ◌≤◌, ◌⊎◌}
+use Rattle.order.specs.Work.{IsEndOf}
 use Rattle.events.specs.declared.did.StepDid.TheVariants as did
-use Rattle.phases.specs.Calls.{Calls, IsLawful}
-use Rattle.phases.specs.Guests.{GuestCall}
-use Rattle.phases.specs.History.{Stepped, ClockRaised, EventStep}
-use Rattle.phases.specs.declared.entry.Status.{Status}
-use Rattle.phases.specs.declared.entry.Status.TheVariants.{Running, Over, Failed}
-use Rattle.phases.specs.Outside.{is_failed, next_order_of, after_clock, clock_in, TakesReplyTo, answered}
-use Rattle.phases.specs.Requests.{Stage, Open, HandedOut, Answered, Cancelled, Request, Requests, has_number, with_stage, is_settled, is_open_stage, lowest_open}
-use Rattle.phases.specs.Host.{with_requests}
-use Rattle.phases.specs.State.{Setting, Loop}
-use Rattle.phases.specs.Step.{in_state, over}
+use Rattle.phases.specs.Outside.{clock_in}
 use Rattle.phases.proofs.Asyncs.{Few, event_few}
-use Rattle.tallies.proofs.Filtered.{Member}
-use Rattle.desk.specs.Desk.{Desk, is_open_request, started}
-use Rattle.world_log.specs.declared.step.Step.{Step}
 use Rattle.world_log.specs.declared.step.Step.TheVariants as step
-use Rattle.world_log.specs.declared.entry.LogEntry.{LogEntry}
 use Rattle.world_log.specs.declared.entry.LogEntry.TheVariants as line
-use Rattle.world_log.specs.declared.outcome.JobEnd.{JobEnd}
 use Rattle.world_log.specs.declared.outcome.PostOutcome.TheVariants as post
 use Rattle.world_log.specs.declared.outcome.StartOutcome.TheVariants as start
 use Rattle.world_log.specs.declared.outcome.FinishOutcome.TheVariants as finish
 use Rattle.world_log.specs.declared.outcome.CollectOutcome.TheVariants as collect
-use Rattle.world.specs.World.{World, Worker, Idle, Taken, Started, Answer, Only, UnlessFailed, PostsOrder}
-use Rattle.world.specs.World.{WorldStep, WorldRun, HasLoop, TellsEnd}
-use Rattle.world.specs.World.{with_loop, with_worker_at, with_replies, core, job_of, entry_told}
-use Rattle.schedules.specs.Laws.{is_of_loop, log_of, is_full}
-use Rattle.schedules.specs.Together.{lines_of}
 use Rattle.schedules.proofs.FreeSlots.{step_kept}
 use Rattle.schedules.proofs.OwnDesk.{Stands, EndsSo, step_there, now_there}
 use Rattle.schedules.proofs.OwnRequests.{FitsOne, Fits, FitsAt, keeps_fits, fits_staged, fits_settled, find_member, place_of, open_not_settled, times_of_another}
@@ -51,17 +30,11 @@ other_entry l entry is = ap (λ (b : Bool). cond b (entry ∷ []) []) is
 
 told_is : (n k : ℕ) (it : StepDid) (emits : List ℕ) → is_of_loop k (entry_told n it emits) ≡ (n == k)
 told_is n k (did.Entered phase now) emits = refl
-told_is n k (did.Ran kind number ended) emits = refl
-told_is n k (did.Skipped kind number) emits = refl
-told_is n k did.Over emits = refl
-told_is n k did.Failed emits = refl
+told_is n k _ emits = refl
 
 told_fits : (n : ℕ) (it : StepDid) (emits : List ℕ) → is_full (entry_told n it emits) ≡ false
 told_fits n (did.Entered phase now) emits = refl
-told_fits n (did.Ran kind number ended) emits = refl
-told_fits n (did.Skipped kind number) emits = refl
-told_fits n did.Over emits = refl
-told_fits n did.Failed emits = refl
+told_fits n _ emits = refl
 
 one_not_full : (entry : LogEntry) → is_full entry ≡ false → count_by is_full (entry ∷ []) ≡ 0
 one_not_full entry is = ap (λ (b : Bool). 0 + cond {A = ℕ} b 1 0) is

@@ -1,19 +1,13 @@
 -- What a loop's owner does between two of its steps, among the threads and in the world, but for a post.
-use Rattle.std.proofs.Common.{◌≡◌, ℕ, Bool, true, false, List, [], ◌∷◌, Some, refl, sym, ap, ◌∙◌, MatchBool}
-use Rattle.std.specs.Prelude.{slice_get, slice_set}
+use Rattle.schedules.proofs.Words.{after_clock, Answer, answered, ap, Bool, Core, core, Desk, desk_calls, false, in_state, is_failed, is_taken_by, List}
+use Rattle.schedules.proofs.Words.{LogEntry, Loop, MatchBool, Only, refl, set_same, Setting, slice_get, slice_set, Some, sym, TakesReplyTo, true, UnlessFailed}
+use Rattle.schedules.proofs.Words.{with_loop, with_replies, with_requests, Worker, World, WorldStep, ℕ, [], ◌∙◌, ◌∷◌, ◌≡◌}
 use Rattle.std.specs.Int.{w32, cast_signed}
-use Rattle.tallies.proofs.Places.{set_same}
-use Rattle.phases.specs.Outside.{TakesReplyTo, CancelIn, is_failed, answered, after_clock}
-use Rattle.phases.specs.Host.{with_requests}
-use Rattle.phases.specs.State.{Setting, Loop, Core}
-use Rattle.phases.specs.Step.{in_state}
-use Rattle.desk.specs.Desk.{Desk, desk_calls}
+use Rattle.phases.specs.Outside.{CancelIn}
 use Rattle.world_log.specs.declared.step.Step.TheVariants as step
-use Rattle.world_log.specs.declared.entry.LogEntry.{LogEntry}
 use Rattle.world_log.specs.declared.entry.LogEntry.TheVariants as line
 use Rattle.world_log.specs.declared.outcome.CollectOutcome.TheVariants as collect
-use Rattle.world.specs.World.{World, Worker, Answer, Only, UnlessFailed, CollectsReplies, CollectsFrom, CancelsRequest, ClocksAt, WorldStep, with_loop, with_replies, core}
-use Rattle.schedules.specs.Laws.{is_taken_by}
+use Rattle.world.specs.World.{CollectsReplies, CollectsFrom, CancelsRequest, ClocksAt}
 use Rattle.schedules.proofs.RunsOfOneJobEach.{beside}
 
 -- The same step of the world, where the loop stands as it does among the threads.

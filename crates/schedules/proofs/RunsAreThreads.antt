@@ -1,29 +1,17 @@
 -- Each run of a world as one of threads, in which nothing comes between the atomic steps of a loop's step.
-use Rattle.std.proofs.Common.{◌≡◌, ℕ, ◌==◌, Bool, true, false, cond, inl, inr, ◌⊎◌, List, [], ◌∷◌, ◌++◌, map, length, Option, Some, None, refl, sym, ap, ◌∙◌}
-use Rattle.std.proofs.Common.{arith, append_assoc, append-nil, MatchBool}
-use Rattle.std.specs.Prelude.{slice_get, slice_set}
-use Rattle.std.specs.List.{count_by}
-use Rattle.std.proofs.lemmas.List.Sums.{sum_by-cons}
-use Rattle.std.proofs.lemmas.List.{set-set}
-use Rattle.limits.specs.declared.TheConstants.{MAX_JOBS}
-use Rattle.order.specs.Work.{WorkOrder}
-use Rattle.tallies.proofs.Places.{set_here, set_same, map_get}
-use Rattle.phases.specs.State.{Setting, Loop, Core}
-use Rattle.phases.specs.Step.{sharing}
-use Rattle.phases.specs.Outside.{is_failed, next_order_of}
-use Rattle.desk.specs.Desk.{Desk}
-use Rattle.world_log.specs.declared.step.Step.{Step}
+use Rattle.schedules.proofs.Words.{Access, AccessMoves, ap, append-nil, append_assoc, arith, Atom, Bool, cond, Core, core, count_by, Desk, false, HasLoop, Idle}
+use Rattle.schedules.proofs.Words.{inl, inr, is_failed, is_full, length, List, LogEntry, Loop, map, map_get, MatchBool, MAX_JOBS, next_order_of, None, Only}
+use Rattle.schedules.proofs.Words.{opening_threads, opening_world, Option, PostsOrder, Reach, refl, RunsJoin, set-set, set_here, set_same, Setting, sharing}
+use Rattle.schedules.proofs.Words.{slice_get, slice_set, Some, Step, StepUnderway, sum_by-cons, sym, Threads, ThreadsRun, true, with_loop, Worker, WorkOrder}
+use Rattle.schedules.proofs.Words.{World, WorldRun, WorldStep, ℕ, [], ◌++◌, ◌==◌, ◌∙◌, ◌∷◌, ◌≡◌, ◌⊎◌}
 use Rattle.world_log.specs.declared.step.Step.TheVariants as step
-use Rattle.world_log.specs.declared.entry.LogEntry.{LogEntry}
 use Rattle.world_log.specs.declared.entry.LogEntry.TheVariants as line
 use Rattle.world_log.specs.declared.outcome.PostOutcome.TheVariants as post
 use Rattle.world.specs.Guests.{EachRunCalls}
 use Rattle.world.specs.Histories.{IsHistory}
-use Rattle.world.specs.Laws.{RunsJoin}
-use Rattle.world.specs.World.{World, Worker, Idle, Only, PostsOrder, WorkerTakesJob, StepsLoop, WorldStep, WorldRun, HasLoop, opening_world, with_loop, core}
-use Rattle.schedules.specs.Accesses.{Access, AccessMoves, Reach}
-use Rattle.schedules.specs.Laws.{HasThreads, is_full}
-use Rattle.schedules.specs.Schedule.{StepUnderway, Threads, Atom, Begin, Next, End, Whole, MayBe, AtOnce, TakesOne, AtomStep, ThreadsRun, opening_threads}
+use Rattle.world.specs.World.{WorkerTakesJob, StepsLoop}
+use Rattle.schedules.specs.Laws.{HasThreads}
+use Rattle.schedules.specs.Schedule.{Begin, Next, End, Whole, MayBe, AtOnce, TakesOne, AtomStep}
 use Rattle.schedules.proofs.StepsByAccess.{step_split}
 
 threads_join : (atoms more : List Atom) (log lines : List LogEntry) (t mid t' : Threads) → ThreadsRun t atoms log mid → ThreadsRun mid more lines t' → ThreadsRun t (atoms ++ more) (log ++ lines) t'
@@ -183,8 +171,6 @@ module _ (calls : EachRunCalls) (history : IsHistory) (joins : RunsJoin) (settin
   run_threads : (steps done : List Step) (log before : List LogEntry) (w w' : World) → WorldRun (opening_world settings workers) done before w → WorldRun w steps log w' → count_by is_full log ≡ 0
       → (atoms : List Atom) × ThreadsRun (record { world = w; steps = Us }) atoms log (record { world = w'; steps = Us })
   run_threads [] done [] before w w' was run none = ([], (refl, ap (λ x. record { world = x; steps = Us }) run))
-  run_threads [] done (e ∷ log) before w w' was run none = absurd run
-  run_threads (s ∷ steps) done [] before w w' was run none = absurd run
   run_threads (s ∷ steps) done (e ∷ log) before w w' was run none =
       let room = none_full e log none in
       let one =
@@ -195,6 +181,7 @@ module _ (calls : EachRunCalls) (history : IsHistory) (joins : RunsJoin) (settin
         one.0 ++ rest.0,
         threads_join one.0 rest.0 (e ∷ []) log (record { world = w; steps = Us }) (record { world = run.0; steps = Us }) (record { world = w'; steps = Us }) one.1 rest.1,
       )
+  run_threads _ done _ before w w' was run none = absurd run
 
   pub of_threads : (steps : List Step) (log : List LogEntry) (w : World) → WorldRun (opening_world settings workers) steps log w → count_by is_full log ≡ 0 → HasThreads settings workers log w
   of_threads steps log w run none =

@@ -1,24 +1,11 @@
 -- Runs of a world that tell what the threads tell, in which each worker takes one job at most.
-use Rattle.std.proofs.Common.{◌≡◌, ◌≢◌, ℕ, ◌+◌, ◌<◌, ◌≤◌, ◌==◌, Bool, true, false, cond, inl, inr, ◌⊎◌, List, [], ◌∷◌, ◌++◌, Some, refl, sym, ap, ◌∙◌, arith}
-use Rattle.std.specs.Prelude.{slice_get, slice_set}
-use Rattle.std.specs.List.{count_by}
-use Rattle.std.proofs.lemmas.Bool.{cases_lt, ne_eqb}
-use Rattle.std.proofs.lemmas.List.Elements.{filter-append}
-use Rattle.std.proofs.lemmas.List.Sums.{sum_by-append, sum_by-cons}
-use Rattle.std.proofs.lemmas.List.{set-set}
-use Rattle.limits.specs.declared.TheConstants.{MAX_ASYNCS}
-use Rattle.tallies.proofs.Places.{set_here, set_same}
-use Rattle.phases.specs.State.{Core}
-use Rattle.phases.specs.Step.{sharing}
-use Rattle.desk.specs.Desk.{Desk, DeskGets}
-use Rattle.world_log.specs.declared.step.Step.{Step}
+use Rattle.schedules.proofs.Words.{ap, arith, Bool, cases_lt, cond, Core, core, count_by, Desk, DeskGets, false, filter-append, inl, inr, is_of_loop}
+use Rattle.schedules.proofs.Words.{is_taken_by, List, log_of, LogEntry, MAX_ASYNCS, ne_eqb, refl, RunsJoin, set-set, set_here, set_same, sharing, slice_get}
+use Rattle.schedules.proofs.Words.{slice_set, Some, Step, sum_by-append, sum_by-cons, sym, true, Worker, World, WorldRun, WorldStep, ℕ, [], ◌++◌, ◌+◌, ◌<◌}
+use Rattle.schedules.proofs.Words.{◌==◌, ◌∙◌, ◌∷◌, ◌≡◌, ◌≢◌, ◌≤◌, ◌⊎◌}
 use Rattle.world_log.specs.declared.step.Step.TheVariants as step
-use Rattle.world_log.specs.declared.entry.LogEntry.{LogEntry}
 use Rattle.world_log.specs.declared.entry.LogEntry.TheVariants as line
 use Rattle.world_log.specs.declared.outcome.JobId.{JobId}
-use Rattle.world.specs.Laws.{RunsJoin}
-use Rattle.world.specs.World.{World, Worker, WorldStep, WorldRun, core}
-use Rattle.schedules.specs.Laws.{log_of, is_of_loop, is_taken_by}
 use Rattle.schedules.proofs.SendsMoveBehind.{Gets}
 
 -- a world with other loops and workers, of which each job is taken once it is posted

@@ -1,20 +1,12 @@
 -- A send of another thread moves behind the accesses of the loop that take nothing.
-use Rattle.std.proofs.Common.{◌≡◌, ℕ, Option, Some, None, zero, suc, ◌<◌, Bool, true, false, List, sum, [], ◌∷◌, ◌++◌, refl, sym, ap, subst, ◌∙◌}
-use Rattle.limits.specs.declared.TheConstants.{MAX_ASYNCS, MAX_SENDS}
-use Rattle.instance.specs.Store.{Store}
-use Rattle.events.specs.declared.did.StepDid.{StepDid}
-use Rattle.phases.specs.Guests.{GuestCall}
-use Rattle.phases.specs.State.{Setting, State, Loop}
-use Rattle.phases.specs.Step.{over}
+use Rattle.schedules.proofs.Words.{Access, AccessMoves, ap, Bool, Cancels, Chain, Desk, DeskGets, false, GuestCall, is_open_request, List, listed_calls, Loop}
+use Rattle.schedules.proofs.Words.{MAX_ASYNCS, None, Opens, Option, over, raised, refl, Sends, Setting, Some, started, State, Stays, step_retraced, StepDid}
+use Rattle.schedules.proofs.Words.{steps_keep, StepsBy, Store, subst, suc, sym, Takes, TakesOwn, times, Touch, true, zero, ℕ, [], ◌++◌, ◌<◌, ◌∙◌, ◌∷◌, ◌≡◌}
+use Rattle.std.proofs.Common.{sum}
+use Rattle.limits.specs.declared.TheConstants.{MAX_SENDS}
 use Rattle.reduction.specs.StepByStep.{StepByStep}
-use Rattle.reduction.proofs.StepByStep.{steps_keep, steps_map}
-use Rattle.tallies.specs.Counts.{raised}
-use Rattle.tallies.specs.Requests.{times}
-use Rattle.desk.specs.Desk.{Desk, is_open_request, opened, cancelled, found_started, started, sent_own, sent_by_another, DeskCancels, DeskSends, DeskGets}
-use Rattle.schedules.specs.Accesses.{Access, Opens, Cancels, Sends, Takes, AccessMoves, listed_calls, StepsBy}
-use Rattle.phases.proofs.CallMoves.{Touch, Stays, ToOpen, ToCancel, ToSend}
-use Rattle.phases.proofs.StepGoes.{TakesOwn}
-use Rattle.phases.proofs.Mirroring.{Chain, step_retraced}
+use Rattle.reduction.proofs.StepByStep.{steps_map}
+use Rattle.desk.specs.Desk.{opened, cancelled, found_started, sent_own, sent_by_another, DeskCancels, DeskSends}
 
 -- another thread sent to this async, and others to these, one after another
 abbrev pub Got : Desk → ℕ → Desk → Type 0
@@ -97,9 +89,7 @@ TakesFirst (a ∷ rest) = NoTakes rest
 no_takes : (touches : List Touch) (ahead : List Access) → Chain listed_calls touches ahead [] → NoTakes ahead
 no_takes [] ahead h = subst NoTakes h tt
 no_takes (Stays ∷ rest) ahead h = subst NoTakes h.1 (no_takes rest h.0 h.2)
-no_takes (ToOpen slot request ∷ rest) ahead h = subst NoTakes (sym h.1) (tt, no_takes rest h.0 h.2)
-no_takes (ToCancel slot request won ∷ rest) ahead h = subst NoTakes (sym h.1) (tt, no_takes rest h.0 h.2)
-no_takes (ToSend async_no ok ∷ rest) ahead h = subst NoTakes (sym h.1) (tt, no_takes rest h.0 h.2)
+no_takes (_ ∷ rest) ahead h = subst NoTakes (sym h.1) (tt, no_takes rest h.0 h.2)
 
 none_first : (accesses : List Access) → NoTakes accesses → TakesFirst accesses
 none_first [] h = tt

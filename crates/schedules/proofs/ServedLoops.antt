@@ -1,20 +1,14 @@
 -- The histories of one account of all threads, as what its loops did.
-use Rattle.std.proofs.Common.{◌≡◌, ℕ, zero, suc, ◌<◌, List, [], ◌∷◌, length, Some, refl, sym, ap, ◌∙◌, arith}
-use Rattle.std.specs.Prelude.{slice_get}
-use Rattle.syntax.specs.Loaded.{Loaded}
+use Rattle.schedules.proofs.Words.{ap, AreInThread, arith, ClockRaised, EndOffered, Event, IsInThread, length, List, Loaded, Loop, MovedBeside, OrderAsked}
+use Rattle.schedules.proofs.Words.{passed_in, refl, Seats, Served, Serving, Setting, setting_at, slice_get, Some, StandBehind, State, Stepped, suc, sym}
+use Rattle.schedules.proofs.Words.{thread_calls, ThreadHistory, zero, ℕ, [], ◌<◌, ◌∙◌, ◌∷◌, ◌≡◌}
 use Rattle.claims.specs.Views.{WorkerView}
-use Rattle.phases.specs.History.{Event, Stepped, OrderAsked, EndOffered, ClockRaised, MovedBeside}
-use Rattle.phases.specs.State.{Setting, Loop, State}
-use Rattle.pool.specs.declared.seats.Seats.{Seats}
 use Rattle.serve.specs.declared.served.LoopEnding.{LoopEnding}
-use Rattle.serve.specs.declared.served.Served.{Served}
-use Rattle.serve.specs.declared.serving.Serving.{Serving}
-use Rattle.serve.specs.HandedOut.{passed_in}
-use Rattle.serve.specs.Histories.{HasEnded, IsByThread, ThreadHistory, thread_calls, setting_at}
+use Rattle.serve.specs.Histories.{HasEnded, IsByThread}
 use Rattle.serve.specs.Joint.{JointRun}
 use Rattle.serve.proofs.AtDesk.{passes_through}
 use Rattle.schedules.specs.Served.{loop_did, Reports, GoesInThreads}
-use Rattle.schedules.specs.Together.{IsInThread, AreInThread, LoopDid, StandBehind, DidInThread, AllDidInThread, AreOneRun}
+use Rattle.schedules.specs.Together.{LoopDid, DidInThread, AllDidInThread, AreOneRun}
 use Rattle.schedules.proofs.ServedReplies.{stand_behind}
 
 own_event : (e : Event) (s : State) → IsByThread e s → IsInThread e
@@ -110,8 +104,7 @@ module _ (loaded : Loaded) (serving : Serving) where
       let one = each 0 s events refl refl in
       listed_first place s served events loops one.0 one.1 one.2
       (listed (λ k. place (suc k)) served loops (omega (arith, wide)) (λ k x es at told. each (suc k) x es at told))
-  listed place [] (events ∷ loops) wide each = absurd (omega (arith, wide))
-  listed place (s ∷ served) [] wide each = absurd (omega (arith, wide))
+  listed place _ _ wide each = absurd (omega (arith, wide))
 
 pub in_threads : AreOneRun thread_calls → (loaded : Loaded) (serving : Serving) (served : List Served) (crew : WorkerView) (run : JointRun loaded serving served crew)
     → length served ≡ serving.loops → GoesInThreads run

@@ -1,15 +1,9 @@
 -- A step of a loop over its desk, as a step by its accesses.
-use Rattle.std.proofs.Common.{◌≡◌, ℕ, List, [], ◌∷◌, Option, Some, None, refl}
-use Rattle.instance.specs.Store.{Store}
-use Rattle.events.specs.declared.did.StepDid.{StepDid}
-use Rattle.phases.specs.Guests.{GuestCall}
-use Rattle.phases.specs.State.{Setting, State, Loop}
-use Rattle.phases.specs.Step.{StepsWith, over}
-use Rattle.desk.specs.Desk.{Desk, desk_calls}
-use Rattle.schedules.specs.Accesses.{Access, Opens, Cancels, Sends, Takes, AccessMoves, Reach, listed_calls, StepsBy}
-use Rattle.phases.proofs.CallMoves.{Touch, Stays, ToOpen, ToCancel, ToSend}
-use Rattle.phases.proofs.StepGoes.{TakesOwn, Takes as TakesAll}
-use Rattle.phases.proofs.Mirroring.{IsMirrored, Anyhow, Chain, step_mirrors, step_retraced}
+use Rattle.schedules.proofs.Words.{Access, AccessMoves, Cancels, Chain, Desk, desk_calls, GuestCall, List, listed_calls, Loop, None, Opens, Option, over, Reach}
+use Rattle.schedules.proofs.Words.{refl, Sends, Setting, Some, State, Stays, step_retraced, StepDid, StepsBy, StepsWith, Store, Takes, TakesOwn, ToCancel}
+use Rattle.schedules.proofs.Words.{ToOpen, ToSend, Touch, ℕ, [], ◌∷◌, ◌≡◌}
+use Rattle.phases.proofs.StepGoes.{Takes as TakesAll}
+use Rattle.phases.proofs.Mirroring.{IsMirrored, Anyhow, step_mirrors}
 
 -- a list of accesses that lead to a desk, and the desks between
 module _ (e : Desk) where
@@ -54,9 +48,7 @@ taken_first (Some taken) rest = Takes taken.0 taken.1 ∷ rest
 listed : (touches : List Touch) → Chain listed_calls touches (accesses_of touches) []
 listed [] = refl
 listed (Stays ∷ rest) = (accesses_of rest, refl, listed rest)
-listed (ToOpen slot request ∷ rest) = (accesses_of rest, refl, listed rest)
-listed (ToCancel slot request won ∷ rest) = (accesses_of rest, refl, listed rest)
-listed (ToSend async_no ok ∷ rest) = (accesses_of rest, refl, listed rest)
+listed (_ ∷ rest) = (accesses_of rest, refl, listed rest)
 
 listed_first : (taken : Option (ℕ × ℕ)) (rest : List Access) → TakesAll listed_calls taken (taken_first taken rest) rest
 listed_first None rest = refl
@@ -66,9 +58,7 @@ listed_first (Some taken) rest = refl
 reached : (touches : List Touch) (d e : Desk) → Chain desk_calls touches d e → Reach d (accesses_of touches) e
 reached [] d e h = h
 reached (Stays ∷ rest) d e h = rw (← h.1) (reached rest h.0 e h.2)
-reached (ToOpen slot request ∷ rest) d e h = (h.0, h.1, reached rest h.0 e h.2)
-reached (ToCancel slot request won ∷ rest) d e h = (h.0, h.1, reached rest h.0 e h.2)
-reached (ToSend async_no ok ∷ rest) d e h = (h.0, h.1, reached rest h.0 e h.2)
+reached (_ ∷ rest) d e h = (h.0, h.1, reached rest h.0 e h.2)
 
 reached_first : (old : Loop Desk) (taken : Option (ℕ × ℕ)) (mid e : Desk) (rest : List Access) → TakesOwn desk_calls old taken mid → Reach mid rest e → Reach old.shared (taken_first taken rest) e
 reached_first old None mid e rest same h = rw (← same) h

@@ -1,23 +1,11 @@
 -- What a loop knows of the object that it shares only grows, and its own sends are covered by what it took and what waits.
-use Rattle.std.proofs.Common.{◌≡◌, ℕ, ◌+◌, ◌<◌, ◌≤◌, ◌==◌, ◌⊎◌, inl, inr, Bool, true, false, cond, List, [], ◌∷◌, ◌++◌, length, length-set, Option, Some, None, sym, ap, subst, ◌∙◌, arith}
-use Rattle.std.specs.Prelude.{slice_index, slice_set}
-use Rattle.std.proofs.lemmas.Bool.{cases_lt}
+use Rattle.schedules.proofs.Words.{ap, arith, Bool, Calls, cases_lt, Chain, cond, false, GuestCall, inl, inr, is_pending, IsLawful, length, length-set, List}
+use Rattle.schedules.proofs.Words.{Loop, MAX_ASYNCS, None, Option, raised, Sent, Setting, slice_index, slice_set, Some, Stays, step_retraced, StepDid}
+use Rattle.schedules.proofs.Words.{steps_keep, StepsWith, subst, sym, TakesOwn, times, times_grow, ToCancel, ToOpen, ToSend, Touch, Touches, true, View, ℕ, []}
+use Rattle.schedules.proofs.Words.{◌++◌, ◌+◌, ◌<◌, ◌==◌, ◌∙◌, ◌∷◌, ◌≡◌, ◌≤◌, ◌⊎◌}
 use Rattle.std.proofs.lemmas.List.{set_past}
-use Rattle.limits.specs.declared.TheConstants.{MAX_ASYNCS}
-use Rattle.tallies.specs.Requests.{times, is_pending}
-use Rattle.tallies.specs.Counts.{raised}
 use Rattle.tallies.proofs.Counts.{raised-at, emptied-at, length-raised}
-use Rattle.tallies.proofs.Requests.{times_grow}
-use Rattle.events.specs.declared.did.StepDid.{StepDid}
-use Rattle.phases.specs.Calls.{Calls, IsLawful}
-use Rattle.reduction.proofs.StepByStep.{steps_keep}
-use Rattle.phases.specs.Guests.{GuestCall}
-use Rattle.phases.specs.State.{Setting, Loop}
-use Rattle.phases.specs.Step.{StepsWith}
-use Rattle.phases.specs.View.{View, Opened, Cancelled, Sent, Taken}
-use Rattle.phases.proofs.CallMoves.{Touch, Stays, ToOpen, ToCancel, ToSend, Touches}
-use Rattle.phases.proofs.Mirroring.{Chain, step_retraced}
-use Rattle.phases.proofs.StepGoes.{TakesOwn}
+use Rattle.phases.specs.View.{Opened, Cancelled, Taken}
 
 -- two counts are raised alike
 raised_alike : (xs ys : List ℕ) (a b : ℕ) → length xs ≡ length ys → slice_index (raised xs a 1) b + slice_index ys b ≡ slice_index xs b + slice_index (raised ys a 1) b

@@ -1,14 +1,8 @@
 -- Each run of the threads as one of a world.
-use Rattle.std.proofs.Common.{◌≡◌, ℕ, ◌+◌, ◌≤◌, List, [], ◌∷◌, length, map, replicate, Option, refl, sym, ap, subst, ◌∙◌, arith}
-use Rattle.order.specs.Work.{WorkOrder}
-use Rattle.phases.specs.State.{Setting, Core}
-use Rattle.desk.specs.Desk.{Desk}
-use Rattle.world_log.specs.declared.entry.LogEntry.{LogEntry}
-use Rattle.world.specs.Laws.{AreInPlace, RunsJoin}
-use Rattle.world.specs.World.{Worker, Idle, opening_loop}
+use Rattle.schedules.proofs.Words.{ap, AreInPlace, arith, Atom, Core, Desk, Idle, jobs_in, length, List, LogEntry, map, opening_loop, opening_threads, Option}
+use Rattle.schedules.proofs.Words.{refl, replicate, RunsJoin, Setting, subst, sym, Threads, ThreadsRun, Worker, WorkOrder, ℕ, [], ◌+◌, ◌∙◌, ◌∷◌, ◌≡◌, ◌≤◌}
 use Rattle.world.proofs.GuestsOfRuns.{kept_in_run}
-use Rattle.schedules.specs.Laws.{HasWorld, jobs_in, is_post_entry}
-use Rattle.schedules.specs.Schedule.{Threads, Atom, ThreadsRun, opening_threads}
+use Rattle.schedules.specs.Laws.{HasWorld, is_post_entry}
 use Rattle.schedules.proofs.Alike.{AllAlike, alike_between, alike_open}
 use Rattle.schedules.proofs.Atoms.{atom_runs}
 use Rattle.schedules.proofs.Hands.{AreHeld, waiting, hands_open}

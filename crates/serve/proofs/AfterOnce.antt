@@ -1,16 +1,8 @@
 -- The after-work callbacks of a loop that was served.
-use Rattle.std.proofs.Common.{ℕ, List, ◌∷◌, ◌++◌, subst}
-use Rattle.std.proofs.Math.Logic.{∥∥₁_map}
+use Rattle.serve.proofs.Words.{Event, EventStep, HasEnded, History, IsAfterLast, IsAfterOnce, IsAfterOwn, IsServed, List, Loop, LoopEnding, Seats, Served}
+use Rattle.serve.proofs.Words.{Setting, subst, thread_calls, ThreadHistory, ThreadStep, ℕ, ∥∥₁_map, ◌++◌, ◌∷◌}
 use Rattle.reduction.proofs.StepByStep.{steps_split, steps_map}
-use Rattle.phases.specs.History.{Event, EventStep, History}
-use Rattle.phases.specs.Laws.{IsAfterOnce, IsAfterOwn, IsAfterLast}
-use Rattle.phases.specs.State.{Setting, Loop}
-use Rattle.pool.specs.declared.seats.Seats.{Seats}
-use Rattle.serve.specs.declared.served.LoopEnding.{LoopEnding}
-use Rattle.serve.specs.declared.served.Served.{Served}
 use Rattle.serve.specs.AfterOnce.{EndsAfterOnce}
-use Rattle.serve.specs.Answers.{IsServed}
-use Rattle.serve.specs.Histories.{HasEnded, ThreadStep, ThreadHistory, thread_calls}
 
 module _ (g : Setting) where
   pub history_of : (events : List Event) (old now : Loop Seats) → ThreadHistory thread_calls g old events now → History thread_calls g old events now

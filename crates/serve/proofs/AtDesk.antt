@@ -1,22 +1,12 @@
 -- The history of a thread's loop at a desk.
-use Rattle.std.proofs.Common.{◌≡◌, ℕ, ◌+◌, List, [], ◌∷◌, refl, sym, ap, subst}
-use Rattle.std.specs.Prelude.{slice_index}
-use Rattle.std.proofs.Math.Logic.{∥∥₁_map}
-use Rattle.phases.specs.History.{Event, CancelAnswered, RequestAnswered, MovedBeside, EventStep}
-use Rattle.phases.specs.State.{Setting, Loop}
-use Rattle.phases.specs.Step.{over}
-use Rattle.phases.specs.View.{View}
+use Rattle.serve.proofs.Words.{ap, CancelAnswered, EndsBy, Event, EventStep, HasEnded, IsByThread, IsServed, List, Loop, LoopEnding, MovedBeside, over}
+use Rattle.serve.proofs.Words.{passed_in, passed_of, refl, RequestAnswered, Seats, Served, Setting, slice_index, subst, sym, thread_calls, ThreadHistory, View}
+use Rattle.serve.proofs.Words.{ℕ, [], ∥∥₁_map, ◌+◌, ◌∷◌, ◌≡◌}
 use Rattle.desk.specs.Desk.{Desk, new_desk}
 use Rattle.desk.specs.Laws.{PassesThrough, GoesAtDesk, PassesAtDesk, IsAsAtDesk}
 use Rattle.desk.specs.Others.{busy_calls}
-use Rattle.pool.specs.declared.seats.Seats.{Seats}
-use Rattle.serve.specs.declared.served.LoopEnding.{LoopEnding}
 use Rattle.serve.specs.declared.served.LoopEnding.TheVariants as ending
-use Rattle.serve.specs.declared.served.Served.{Served}
-use Rattle.serve.specs.Answers.{IsServed}
 use Rattle.serve.specs.AtDesk.{EndsAtDesk}
-use Rattle.serve.specs.HandedOut.{passed_in, passed_of}
-use Rattle.serve.specs.Histories.{HasEnded, EndsBy, IsByThread, ThreadHistory, thread_calls}
 
 module _ (g : Setting) where
   pub passes_through : (old : Loop Seats) (events : List Event) (now : Loop Seats) (h : ThreadHistory thread_calls g old events now)

@@ -1,24 +1,12 @@
 -- The after-work callbacks of a loop in one account of all threads.
-use Rattle.std.proofs.Common.{◌≡◌, inl, inr, ℕ, true, List, ◌∷◌, Some, refl, sym, ap, ◌∙◌}
-use Rattle.std.specs.Prelude.{slice_get}
-use Rattle.std.specs.List.{Contains}
+use Rattle.serve.proofs.Words.{ap, Contains, EndOffered, Event, GuestCall, HandedOut, HasEnded, inl, inr, IsAfterLast, IsAfterOnce, IsAfterOwn, IsOpening}
+use Rattle.serve.proofs.Words.{JointRun, List, Loaded, Loop, refl, Request, same_Some, Seats, Served, Serving, Setting, setting_at, slice_get, slice_get-get_or}
+use Rattle.serve.proofs.Words.{Some, Stage, StepDid, Stepped, sym, thread_calls, true, WorkEnd, WorkerView, ℕ, ◌∙◌, ◌∷◌, ◌≡◌}
 use Rattle.std.proofs.lemmas.List.Elements.{Contains-append_left}
-use Rattle.std.proofs.lemmas.Option.{same_Some, slice_get-get_or}
-use Rattle.syntax.specs.Loaded.{Loaded}
-use Rattle.claims.specs.Views.{WorkerView}
-use Rattle.order.specs.Work.{WorkEnd, Done}
-use Rattle.events.specs.declared.did.StepDid.{StepDid}
-use Rattle.phases.specs.Guests.{GuestCall}
-use Rattle.phases.specs.History.{Event, Stepped, EndOffered, IsOpening}
-use Rattle.phases.specs.Laws.{IsAfterOnce, IsAfterOwn, IsAfterLast, WasCancelled, AreDue}
-use Rattle.phases.specs.Requests.{Stage, Open, HandedOut, Answered, Cancelled, Request, Completion, cancellation, end_completion, completion_of}
-use Rattle.phases.specs.State.{Setting, Loop}
-use Rattle.pool.specs.declared.seats.Seats.{Seats}
-use Rattle.serve.specs.declared.served.Served.{Served}
-use Rattle.serve.specs.declared.serving.Serving.{Serving}
+use Rattle.order.specs.Work.{Done}
+use Rattle.phases.specs.Laws.{WasCancelled, AreDue}
+use Rattle.phases.specs.Requests.{Open, Answered, Cancelled, Completion, cancellation, end_completion, completion_of}
 use Rattle.serve.specs.AfterOnce.{IsGivenOwn, EndsAfterOnce, EndsByWorkers}
-use Rattle.serve.specs.Histories.{HasEnded, thread_calls, setting_at}
-use Rattle.serve.specs.Joint.{JointRun}
 use Rattle.serve.proofs.AfterOnce.{history_of, ends_once}
 use Rattle.serve.proofs.Offered.{offered_end}
 

@@ -1,14 +1,6 @@
 -- What a loop that has ended in its thread gives back.
-use Rattle.std.proofs.Common.{◌≡◌, sym, ◌∙◌}
-use Rattle.std.proofs.Math.Logic.{∥∥₁_map}
-use Rattle.std.specs.Prelude.{option_to_list}
-use Rattle.claims.specs.declared.seats.Ticket.{Ticket}
-use Rattle.serve.specs.declared.loop_thread.LoopThread.{LoopThread}
-use Rattle.serve.specs.declared.served.LoopEnding.{LoopEnding}
-use Rattle.serve.specs.declared.served.Served.{Served}
-use Rattle.serve.specs.Histories.{HasDone, EndsBy, thread_calls}
-use Rattle.serve.specs.Inner.Ends.{DidEvents, LoopEnds}
-use Rattle.serve.specs.Inner.Threads.{HasTied, IsTiedSoFar}
+use Rattle.serve.proofs.Words.{DidEvents, EndsBy, HasDone, HasTied, IsTiedSoFar, LoopEnding, LoopEnds, LoopThread, option_to_list, Served, sym, thread_calls}
+use Rattle.serve.proofs.Words.{Ticket, ∥∥₁_map, ◌∙◌, ◌≡◌}
 use Rattle.serve.proofs.Tying.{tied_less}
 
 module _ {J : Type 0} (ticket : J → Ticket) (t : LoopThread J) where

@@ -1,20 +1,8 @@
 -- What is known of all passes and all seats once their threads have ended.
-use Rattle.std.proofs.Common.{◌≡◌, inl, inr, ℕ, ◌+◌, List, ◌++◌, length, map, Some, arith, All}
-use Rattle.std.proofs.Math.Logic.{∥∥₁_map, ∥∥₁_map₂}
-use Rattle.std.specs.Prelude.{slice_get, flat_map}
-use Rattle.std.proofs.lemmas.Option.{slice_get-get_or}
-use Rattle.syntax.specs.Loaded.{Loaded}
-use Rattle.claims.specs.declared.seats.Ticket.{Ticket}
-use Rattle.claims.specs.Views.{ClaimsView, WorkerView, EachOnce}
-use Rattle.board.specs.Views.{IsWhole}
-use Rattle.board.specs.Boards.{BoardView, PassView, IsPassOf, HasNumber, AreNumbered, AreRepliesWhole}
-use Rattle.serve.specs.declared.served.Served.{Served}
-use Rattle.serve.specs.declared.serving.Serving.{Serving}
-use Rattle.serve.specs.Answers.{IsServed, EachServed}
-use Rattle.serve.specs.Histories.{setting_at}
-use Rattle.serve.specs.Inner.Ends.{DidEvents, DidTurns, LoopEnds, WorkerEnds}
-use Rattle.serve.specs.Inner.Places.{EachPair}
-use Rattle.serve.specs.Joint.{JointRun}
+use Rattle.serve.proofs.Words.{All, AreNumbered, AreRepliesWhole, arith, BoardView, ClaimsView, DidEvents, DidTurns, EachOnce, EachPair, flat_map, HasNumber}
+use Rattle.serve.proofs.Words.{inl, inr, IsPassOf, IsServed, IsWhole, JointRun, length, List, Loaded, LoopEnds, map, PassView, Served, Serving, setting_at}
+use Rattle.serve.proofs.Words.{slice_get, slice_get-get_or, Some, Ticket, WorkerEnds, WorkerView, ℕ, ∥∥₁_map, ∥∥₁_map₂, ◌++◌, ◌+◌, ◌≡◌}
+use Rattle.serve.specs.Answers.{EachServed}
 use Rattle.serve.proofs.Lookups.{split_at}
 use Rattle.serve.proofs.NumberedLists.{each_get, pair_lengths, pair_map, firsts, seconds}
 use Rattle.serve.proofs.Together.{out, together}

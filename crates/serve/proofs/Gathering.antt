@@ -1,11 +1,8 @@
 -- The seats of workers, taken into one from the last on.
-use Rattle.std.proofs.Common.{◌≡◌, List, [], ◌∷◌, ◌++◌, length, get_or, All, append_assoc, append-nil, refl, sym, ap, subst, ◌∙◌, arith}
-use Rattle.std.specs.Prelude.{flat_map}
-use Rattle.std.proofs.lemmas.List.{length_push, get_or_push}
+use Rattle.serve.proofs.Words.{All, ap, append-nil, append_assoc, arith, flat_map, flat_map-append, get_or, length, length_push, List, refl, subst, sym, Ticket}
+use Rattle.serve.proofs.Words.{WorkerView, [], ◌++◌, ◌∙◌, ◌∷◌, ◌≡◌}
+use Rattle.std.proofs.lemmas.List.{get_or_push}
 use Rattle.std.proofs.Math.ListN.{get_or-append}
-use Rattle.std.proofs.lemmas.List.Concat.{flat_map-append}
-use Rattle.claims.specs.declared.seats.Ticket.{Ticket}
-use Rattle.claims.specs.Views.{WorkerView}
 
 module _ {A : Type 0} (P : A → Type 0) where
   pub all_front : (xs ys : List A) (x : A) → xs ≡ ys ++ x ∷ [] → All P xs → All P ys

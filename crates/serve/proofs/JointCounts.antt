@@ -1,18 +1,11 @@
 -- What passes that were all taken in say of the loops and the workers together.
-use Rattle.std.proofs.Common.{◌≡◌, ℕ, zero, suc, ◌+◌, ◌≤◌, Bool, true, false, ◌==◌, cond, List, [], ◌∷◌, ◌++◌, length, map, drop, get_or, Some, None, slice_get, count_by, sum_by, refl, sym, ap, ◌∙◌, arith}
-use Rattle.std.proofs.lemmas.Option.{same_Some}
-use Rattle.std.proofs.lemmas.List.Sums.{sum_by-cons, sum_by-append}
-use Rattle.tallies.proofs.Lists.{count_cons}
-use Rattle.claims.specs.declared.seats.Ticket.{Ticket}
-use Rattle.claims.specs.Views.{is_ticket}
-use Rattle.order.specs.declared.reply.Reply.{Reply}
-use Rattle.board.specs.Jobs.{ticket_of}
-use Rattle.board.specs.declared.line.Named.{Named}
-use Rattle.board.specs.Views.{HandView, IsWhole}
-use Rattle.board.specs.Boards.{PassView, AreHandsOf}
-use Rattle.phases.specs.History.{Event}
-use Rattle.pool.specs.Turns.{Turn, Dropped, Put, GivenUp, ticket_in, put_for}
-use Rattle.serve.specs.Joint.{asks, takes, puts, times_in}
+use Rattle.serve.proofs.Words.{ap, AreHandsOf, arith, asks, Bool, cond, count_by, count_cons, Event, false, get_or, HandView, is_ticket, IsWhole, length, List}
+use Rattle.serve.proofs.Words.{map, Named, None, PassView, Put, put_for, refl, Reply, same_Some, slice_get, Some, suc, sum_by-append, sym, Ticket, ticket_of}
+use Rattle.serve.proofs.Words.{true, Turn, zero, ℕ, [], ◌++◌, ◌+◌, ◌==◌, ◌∙◌, ◌∷◌, ◌≡◌, ◌≤◌}
+use Rattle.std.proofs.Common.{drop, sum_by}
+use Rattle.std.proofs.lemmas.List.Sums.{sum_by-cons}
+use Rattle.pool.specs.Turns.{Dropped, GivenUp, ticket_in}
+use Rattle.serve.specs.Joint.{takes, puts, times_in}
 
 -- two lists are related, element by element
 abbrev pub Pairs : {A B : Type 0} → (A → B → Type 0) → List A → List B → Type 0

@@ -1,3 +1,4 @@
+pub mod Words
 pub mod AfterOnce
 pub mod AtDesk
 pub mod ByWorkers

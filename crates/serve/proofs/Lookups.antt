@@ -1,7 +1,6 @@
 -- What stands in a list at a place.
-use Rattle.std.proofs.Common.{◌≡◌, ◌≢◌, ◌⊎◌, inl, inr, ℕ, zero, suc, ◌+◌, ◌<◌, List, [], ◌∷◌, ◌++◌, length, map, Some, None, refl, sym, ap, subst, arith}
-use Rattle.std.specs.Prelude.{slice_get, slice_set}
-use Rattle.std.proofs.lemmas.Option.{same_Some}
+use Rattle.serve.proofs.Words.{ap, arith, inl, inr, length, List, map, None, refl, same_Some, slice_get, slice_set, Some, subst, suc, sym, zero, ℕ, [], ◌++◌}
+use Rattle.serve.proofs.Words.{◌+◌, ◌<◌, ◌∷◌, ◌≡◌, ◌≢◌, ◌⊎◌}
 use mathlib.Core.Option.{some, some-injective, some-ne-none}
 use lib.ListN.{get_elem?}
 

@@ -1,8 +1,6 @@
 -- Lists whose elements are numbered in order.
-use Rattle.std.proofs.Common.{Result, Ok, Err, OnOk, ◌≡◌, ℕ, zero, suc, ◌+◌, ◌<◌, List, [], ◌∷◌, ◌++◌, length, Some, refl, sym, ap, subst, ◌∙◌, arith}
-use Rattle.std.proofs.lemmas.List.{length_push}
-use Rattle.std.specs.List.{slice_get}
-use Rattle.serve.specs.Inner.Places.{EachFrom, EachPair}
+use Rattle.serve.proofs.Words.{ap, arith, EachFrom, EachPair, Err, length, length_push, List, Ok, OnOk, refl, Result, slice_get, Some, subst, suc, sym, zero, ℕ}
+use Rattle.serve.proofs.Words.{[], ◌++◌, ◌+◌, ◌<◌, ◌∙◌, ◌∷◌, ◌≡◌}
 
 module _ {A : Type 0} (P : ℕ → A → Type 0) where
   pub from_push : (n : ℕ) (xs : List A) (x : A) → EachFrom P n xs → P (n + length xs) x → EachFrom P n (xs ++ x ∷ [])

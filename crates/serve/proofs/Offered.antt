@@ -1,17 +1,12 @@
 -- What a request was answered with was offered to its loop before.
-use Rattle.std.proofs.Common.{◌≡◌, ℕ, Bool, true, false, cond, not, inl, inr, List, [], ◌∷◌, ◌++◌, map, Some, None, Option, refl, sym, ap, subst, ◌∙◌}
-use Rattle.std.specs.List.{Contains, filter}
+use Rattle.serve.proofs.Words.{CancelAnswered, ClockRaised, EndOffered, GuestCall, HandedOut, IsOpening, MovedBeside, OrderAsked, RequestAnswered, WorkOrder, ℕ}
+use Rattle.serve.proofs.Words.{ap, Calls, Contains, Event, Failed, false, filter, History, next_in, Option, Request, Running, Setting, Status, Stepped, WorkEnd}
+use Rattle.serve.proofs.Words.{Bool, cond, inl, inr, List, Loop, map, None, not, Over, refl, Some, Stage, State, subst, sym, true, [], ◌++◌, ◌∙◌, ◌∷◌, ◌≡◌}
 use Rattle.std.proofs.lemmas.Bool.{cases_eq, eqb-true, ne_eqb}
 use Rattle.std.proofs.lemmas.List.Elements.{filter-append, Contains-append_left, Contains-push}
-use Rattle.order.specs.Work.{WorkOrder, WorkEnd}
-use Rattle.phases.specs.declared.entry.Status.{Status}
-use Rattle.phases.specs.declared.entry.Status.TheVariants.{Running, Over, Failed}
-use Rattle.phases.specs.Calls.{Calls}
-use Rattle.phases.specs.Guests.{GuestCall}
-use Rattle.phases.specs.History.{Event, Stepped, OrderAsked, EndOffered, CancelAnswered, RequestAnswered, ClockRaised, MovedBeside, History, IsOpening, owners_call}
-use Rattle.phases.specs.Outside.{next_order_of, next_in, handing}
-use Rattle.phases.specs.Requests.{Stage, Open, HandedOut, Answered, Cancelled, Request, Requests, has_number, request_of, in_stage, with_stage, without_request, with_work, lowest_open}
-use Rattle.phases.specs.State.{Setting, State, Loop}
+use Rattle.phases.specs.History.{owners_call}
+use Rattle.phases.specs.Outside.{next_order_of, handing}
+use Rattle.phases.specs.Requests.{Open, Answered, Cancelled, Requests, has_number, request_of, in_stage, with_stage, without_request, with_work, lowest_open}
 use Rattle.phases.proofs.CancelFates.{CancelFate, cancelled, stayed, fate_in}
 use Rattle.phases.proofs.EventsKeep.{Keeps, kept_along}
 use Rattle.phases.proofs.RequestByNumber.{numbered, numbered_staged, removed_here}

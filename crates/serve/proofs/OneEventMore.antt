@@ -1,47 +1,25 @@
 -- One event more of a thread's loop.
-use Rattle.std.proofs.Common.{◌≡◌, ◌≢◌, ℕ, ◌+◌, ◌≤◌, true, false, cond, List, [], ◌∷◌, ◌++◌, refl, sym, ap, subst, ◌∙◌, append_assoc, append-nil, add-zero, arith}
-use Rattle.std.specs.Prelude.{Option, option_map}
-use Rattle.std.proofs.lemmas.List.Sums.{sum_by-append}
-use Rattle.tallies.proofs.Lists.{count_cons}
-use Rattle.std.proofs.Math.Logic.{∥∥₁_map}
-use Rattle.limits.specs.declared.TheConstants.{MAX_CALLBACKS}
-use Rattle.syntax.specs.Loaded.{Loaded}
-use Rattle.reduction.proofs.StepByStep.{steps_join}
+use Rattle.serve.proofs.Words.{append-nil, append_assoc, ClockRaised, MAX_CALLBACKS, MovedBeside, RecordHandsOut, sum_by-append, thread_calls, ThreadHistory, ℕ}
+use Rattle.serve.proofs.Words.{count_cons, EndOffered, IsByThread, LoopEnding, LoopRecord, LoopStep, MovesAlone, offered_in, option_map, OrderAsked, steps_join}
+use Rattle.serve.proofs.Words.{BareDid, emitted, EntryKind, EventStep, GuestCall, IsOffered, IsOpening, new_view, order_of, PostsNone, ThreadStep, whole_did}
+use Rattle.serve.proofs.Words.{ap, arith, end_of, Ended, EndsBy, HasDone, IsAlone, Loaded, MovesBy, opening, Option, Setting, Status, StepDid, Stepped, ∥∥₁_map}
+use Rattle.serve.proofs.Words.{cond, Event, false, List, Loop, Order, refl, Reply, Seats, subst, sym, true, [], ◌++◌, ◌+◌, ◌∙◌, ◌∷◌, ◌≡◌, ◌≢◌, ◌≤◌}
+use Rattle.std.proofs.Common.{add-zero}
 use Rattle.handles.specs.Table.{saturated}
 use Rattle.instance.specs.Fresh.{IsFresh}
-use Rattle.order.specs.declared.order.Order.{Order}
-use Rattle.order.specs.declared.reply.Reply.{Reply}
-use Rattle.order.specs.Orders.{order_of, end_of}
-use Rattle.events.specs.declared.did.StepDid.{StepDid}
 use Rattle.events.specs.declared.did.StepDid.TheVariants as did
 use Rattle.events.specs.declared.did.Hint.TheVariants.{For}
-use Rattle.events.specs.declared.phase.EntryKind.{EntryKind}
-use Rattle.phases.specs.declared.entry.Status.{Status}
 use Rattle.phases.specs.declared.entry.Status.TheVariants as status
-use Rattle.events.specs.declared.ended.Ended.{Ended}
 use Rattle.events.specs.declared.ended.BareEnded.{BareEnded}
-use Rattle.phases.specs.Bare.{whole_did}
-use Rattle.phases.specs.declared.did.BareDid.{BareDid}
 use Rattle.phases.specs.declared.did.BareDid.TheVariants as bare
 use Rattle.phases.specs.declared.loop_core.Accepted.{Accepted}
 use Rattle.phases.specs.declared.loop_core.Accepted.TheVariants as accepted
 use Rattle.phases.specs.Accepting.{Accepts}
-use Rattle.phases.specs.Guests.{GuestCall}
-use Rattle.phases.specs.History.{Event, Stepped, OrderAsked, EndOffered, ClockRaised, MovedBeside, EventStep, IsOpening, emits_in, emitted}
+use Rattle.phases.specs.History.{emits_in}
 use Rattle.phases.specs.Outside.{next_order_of, clock_in, after_clock}
 use Rattle.phases.specs.PhaseList.{begin_list, hint_of}
 use Rattle.phases.specs.Roster.{opening_roster}
-use Rattle.phases.specs.State.{Setting, Loop, opening}
-use Rattle.phases.specs.Step.{LoopStep}
-use Rattle.phases.specs.View.{new_view}
-use Rattle.pool.specs.declared.seats.Seats.{Seats}
-use Rattle.serve.specs.declared.served.LoopEnding.{LoopEnding}
-use Rattle.serve.specs.Histories.{HasDone, HasServed, EndsBy, ThreadStep, ThreadHistory, thread_calls, is_callback_event, callbacks_in, IsByThread}
-use Rattle.serve.specs.declared.record.LoopRecord.{LoopRecord}
-use Rattle.serve.specs.Inner.Alone.{IsAlone}
-use Rattle.serve.specs.Inner.Ends.{offered_in}
-use Rattle.serve.specs.Inner.Posts.{PostsNone}
-use Rattle.serve.specs.Inner.Moves.{MovesBy, MovesAlone, RecordHandsOut, IsOffered}
+use Rattle.serve.specs.Histories.{HasServed, is_callback_event, callbacks_in}
 
 -- to raise the clock to 0 is to read it
 clock_read : (s : Status) (n : ℕ) → clock_in s n 0 ≡ n

@@ -1,7 +1,5 @@
 -- A place more, where the last seat and the last pass are taken.
-use Rattle.std.proofs.Common.{◌≡◌, ℕ, ◌+◌, List, [], ◌∷◌, ◌++◌, length, ap, ◌∙◌, arith}
-use Rattle.std.proofs.lemmas.List.{length_push}
-use Rattle.serve.specs.Inner.Places.{EachDown}
+use Rattle.serve.proofs.Words.{ap, arith, EachDown, length, length_push, List, ℕ, [], ◌++◌, ◌+◌, ◌∙◌, ◌∷◌, ◌≡◌}
 use Rattle.serve.proofs.NumberedLists.{from_front, from_last, push_at}
 
 -- without the last, the list is shorter by one

@@ -1,28 +1,16 @@
 -- What a loop posts, and what it finds started, it handed out before.
-use Rattle.std.proofs.Common.{◌≡◌, ◌⊎◌, inl, inr, ℕ, ◌+◌, ◌<◌, Bool, true, false, cond, List, [], ◌∷◌, ◌++◌, Some, refl, sym, ap, subst, ◌∙◌, append_assoc, append-nil, arith}
-use Rattle.std.proofs.lemmas.List.Concat.{flat_map-append}
-use Rattle.std.proofs.lemmas.List.Sums.{sum_by-append}
+use Rattle.serve.proofs.Words.{Anyhow, ap, append-nil, append_assoc, arith, Bool, CancelAnswered, ClaimsView, ClockRaised, cond, EndOffered, Event, EventStep}
+use Rattle.serve.proofs.Words.{false, flat_map-append, FoundBehind, GuestCall, handed_out, inl, inr, IsByThread, IsMirrored, List, Loop, LoopRecord, LoopView}
+use Rattle.serve.proofs.Words.{MovedBeside, MovesBy, new_loop_view, Order, order_of, OrderAsked, passed_in, PostsAmong, PostsNone, RecordHandsOut, RecordPosts}
+use Rattle.serve.proofs.Words.{refl, RequestAnswered, Seats, Setting, Some, step_mirrors, StepDid, Stepped, steps_join, subst, sum_by-append, sym, thread_calls}
+use Rattle.serve.proofs.Words.{ThreadHistory, ThreadStep, true, View, WorkOrder, ℕ, [], ◌++◌, ◌+◌, ◌<◌, ◌∙◌, ◌∷◌, ◌≡◌, ◌⊎◌}
 use Rattle.tallies.specs.Requests.{times, is_request, is_pending}
 use Rattle.tallies.proofs.Requests.{is_request_itself, times_grow, times_hit, pushed}
-use Rattle.reduction.proofs.StepByStep.{steps_from, steps_join}
-use Rattle.claims.specs.Views.{ClaimsView, LoopView, OpensSlot, PostsSlot, new_loop_view}
-use Rattle.order.specs.Work.{WorkOrder}
-use Rattle.order.specs.declared.order.Order.{Order}
-use Rattle.order.specs.Orders.{order_of}
-use Rattle.events.specs.declared.did.StepDid.{StepDid}
-use Rattle.phases.specs.Guests.{GuestCall}
-use Rattle.phases.specs.History.{Event, Stepped, OrderAsked, EndOffered, CancelAnswered, RequestAnswered, ClockRaised, MovedBeside, EventStep}
-use Rattle.phases.specs.State.{Setting, Loop}
+use Rattle.reduction.proofs.StepByStep.{steps_from}
+use Rattle.claims.specs.Views.{OpensSlot, PostsSlot}
 use Rattle.phases.specs.Step.{StepsWith}
-use Rattle.phases.specs.View.{View}
-use Rattle.phases.proofs.Mirroring.{IsMirrored, Anyhow, step_mirrors}
-use Rattle.pool.specs.declared.seats.Seats.{Seats}
 use Rattle.pool.specs.Share.{TriesToCancel, TriesToPost}
-use Rattle.serve.specs.declared.record.LoopRecord.{LoopRecord}
-use Rattle.serve.specs.HandedOut.{handed_in, passed_in, FoundBehind}
-use Rattle.serve.specs.Histories.{IsByThread, ThreadStep, ThreadHistory, thread_calls}
-use Rattle.serve.specs.Inner.Moves.{MovesBy, RecordHandsOut, RecordPosts}
-use Rattle.serve.specs.Inner.Posts.{PostsNone, handed_out, PostsAmong}
+use Rattle.serve.specs.HandedOut.{handed_in}
 use Rattle.serve.proofs.OneEventMore.{moves_then}
 use Rattle.serve.proofs.SentAlone.{nothing_known}
 

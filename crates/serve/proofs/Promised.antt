@@ -1,16 +1,9 @@
 -- What a thread that keeps its promise gives.
-use Rattle.std.proofs.Common.{ℕ}
-use Rattle.std.specs.Arc.{arc_value}
-use Rattle.claims.specs.declared.seats.Ticket.{Ticket}
-use Rattle.claims.specs.Views.{ClaimsView, WorkerView}
-use Rattle.board.specs.Boards.{BoardView, PassView}
+use Rattle.serve.proofs.Words.{arc_value, BoardView, ClaimsView, IsThreadOf, IsWorkerThreadOf, LoopEnds, PassView, Served, setting_at, Ticket, WorkerEnds}
+use Rattle.serve.proofs.Words.{WorkerView, ℕ}
 use Rattle.serve.specs.declared.crew.ThreadOfWorker.{ThreadOfWorker}
-use Rattle.serve.specs.declared.served.Served.{Served}
 use Rattle.serve.specs.declared.plan.ThreadOfLoop.{ThreadOfLoop}
 use Rattle.serve.specs.declared.plan.ServicePlan.{ServicePlan}
-use Rattle.serve.specs.Histories.{setting_at}
-use Rattle.serve.specs.Inner.Ends.{LoopEnds, WorkerEnds}
-use Rattle.serve.specs.Inner.Promises.{IsThreadOf, IsWorkerThreadOf}
 
 module _ {J : Type 0} (ticket : J → Ticket) where
   pub loop_ended : (plan : ServicePlan) (board : BoardView) (k : ℕ) (promise : ThreadOfLoop J) (s : Served) (p : PassView J) → IsThreadOf plan board k promise

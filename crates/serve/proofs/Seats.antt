@@ -1,9 +1,7 @@
 -- New seats and new passes, in the order of their numbers.
-use Rattle.std.proofs.Common.{◌≡◌, ℕ, List, [], ◌∷◌, All, get_or, refl, arith}
-use Rattle.std.proofs.lemmas.Option.{slice_get-get_or}
-use Rattle.claims.specs.Views.{ClaimsView, LoopView, WorkerView, AreNewLoops, AreNewWorkers, new_loop_view, new_worker_view}
-use Rattle.board.specs.Boards.{BoardView, PassView, IsNewPass, AreNumbered}
-use Rattle.serve.specs.Inner.Places.{IsPassAt, EachFrom}
+use Rattle.serve.proofs.Words.{All, AreNumbered, arith, BoardView, ClaimsView, EachFrom, get_or, IsNewPass, IsPassAt, List, LoopView, new_loop_view}
+use Rattle.serve.proofs.Words.{new_worker_view, PassView, refl, slice_get-get_or, WorkerView, ℕ, [], ◌∷◌, ◌≡◌}
+use Rattle.claims.specs.Views.{AreNewLoops, AreNewWorkers}
 use Rattle.serve.proofs.NumberedLists.{all_from}
 
 pub new_loops : (claims : ClaimsView) (n : ℕ) (seats : List LoopView) → AreNewLoops claims.id n seats → EachFrom (λ k (s : LoopView). s ≡ new_loop_view claims.id k) 0 seats

@@ -1,23 +1,14 @@
 -- While nobody else sends, what is taken of an async is the loop's own sends.
-use Rattle.std.proofs.Common.{◌≡◌, ◌≢◌, inl, inr, ℕ, ◌+◌, ◌<◌, ◌≤◌, Bool, true, false, List, [], length, length-set, sym, ap, subst, ◌∙◌, arith}
-use Rattle.std.specs.Prelude.{slice_index, slice_set}
+use Rattle.serve.proofs.Words.{Anyhow, ap, arith, Bool, Calls, false, get_or-set_other, inl, inr, IsAlone, IsMirrored, length, length-set, List, Loop, LoopStep}
+use Rattle.serve.proofs.Words.{new_view, Seats, Setting, slice_index, slice_set, step_mirrors, StepDid, subst, sym, thread_calls, true, ℕ, ℕ_discrete, [], ◌+◌}
+use Rattle.serve.proofs.Words.{◌<◌, ◌∙◌, ◌≡◌, ◌≢◌, ◌≤◌}
 use Rattle.std.proofs.lemmas.Bool.{cases_lt}
-use Rattle.std.proofs.lemmas.List.{get_or-set_same, get_or-set_other, get_or_past}
-use native.Mathlib.Decide.{ℕ_discrete}
+use Rattle.std.proofs.lemmas.List.{get_or-set_same, get_or_past}
 use Rattle.limits.specs.declared.TheConstants.{MAX_ASYNCS}
 use Rattle.tallies.specs.Counts.{raised, none_counted}
 use Rattle.tallies.proofs.Counts.{raised-there, raised-elsewhere, length-raised, zeros}
 use Rattle.marks.specs.Counts.{Taker, sent_together}
-use Rattle.events.specs.declared.did.StepDid.{StepDid}
-use Rattle.phases.specs.Calls.{Calls}
-use Rattle.phases.specs.State.{Setting, Loop}
-use Rattle.phases.specs.Step.{LoopStep}
-use Rattle.phases.specs.View.{new_view}
-use Rattle.phases.proofs.Mirroring.{IsMirrored, Anyhow, step_mirrors}
-use Rattle.pool.specs.declared.seats.Seats.{Seats}
 use Rattle.pool.specs.Share.{TriesToSend, TakesSends}
-use Rattle.serve.specs.Histories.{thread_calls}
-use Rattle.serve.specs.Inner.Alone.{IsAlone}
 
 -- a count that was raised, whether or not it is there
 raised_by_one : (xs ys : List ℕ) (a b n : ℕ) → length xs ≡ length ys → n + slice_index xs b ≡ slice_index ys b → n + slice_index (raised xs a 1) b ≡ slice_index (raised ys a 1) b

@@ -1,27 +1,10 @@
 -- What passes and seats say of all loops and all workers, once all were taken in.
-use Rattle.std.proofs.Common.{◌≡◌, ◌⊎◌, inl, inr, ℕ, zero, suc, ◌+◌, ◌<◌, ◌≤◌, Bool, true, false, cond, List, [], ◌∷◌, ◌++◌, append-nil, length, map, Some, count_by, refl, sym, ap, ◌∙◌, subst, arith}
-use Rattle.std.proofs.Math.Logic.{∥∥₁_map₂}
-use Rattle.std.specs.Prelude.{slice_get, flat_map, ◌==◌}
-use Rattle.std.proofs.lemmas.Option.{same_Some}
-use Rattle.tallies.proofs.Lists.{count_cons}
-use Rattle.syntax.specs.Loaded.{Loaded}
-use Rattle.claims.specs.declared.seats.Ticket.{Ticket}
-use Rattle.claims.specs.Views.{WorkerView, EachOnce, is_ticket}
-use Rattle.order.specs.Orders.{order_of, end_of}
-use Rattle.order.specs.Work.{WorkOrder, WorkEnd}
-use Rattle.order.specs.declared.reply.Reply.{Reply}
-use Rattle.board.specs.Views.{HandView, IsWhole}
-use Rattle.board.specs.Boards.{PassView, AreHandsOf, AreRepliesWhole}
-use Rattle.board.specs.declared.line.Named.{Named}
-use Rattle.phases.specs.History.{Event, EndOffered}
-use Rattle.pool.specs.Turns.{Turn, Put, started_by, put_for}
-use Rattle.serve.specs.declared.served.Served.{Served}
-use Rattle.serve.specs.declared.serving.Serving.{Serving}
-use Rattle.serve.specs.HandedOut.{FoundBehind, passed_of}
-use Rattle.serve.specs.Histories.{HasEnded, thread_calls, setting_at}
-use Rattle.serve.specs.Inner.Ends.{offer_of, offered_in, IsTied, DidTurns, DidEvents}
-use Rattle.serve.specs.Inner.Places.{EachPair}
-use Rattle.serve.specs.Joint.{IsPut, JointRun, asks, puts, is_offered, ticket_for, times_in}
+use Rattle.serve.proofs.Words.{ap, append-nil, AreHandsOf, AreRepliesWhole, arith, asks, Bool, cond, count_by, count_cons, DidEvents, DidTurns, EachOnce}
+use Rattle.serve.proofs.Words.{EachPair, end_of, EndOffered, Event, false, flat_map, FoundBehind, HandView, HasEnded, inl, inr, is_ticket, IsTied, IsWhole}
+use Rattle.serve.proofs.Words.{JointRun, length, List, Loaded, map, Named, offer_of, offered_in, order_of, passed_of, PassView, Put, put_for, refl, Reply}
+use Rattle.serve.proofs.Words.{same_Some, Served, Serving, setting_at, slice_get, Some, started_by, subst, suc, sym, thread_calls, Ticket, true, Turn, WorkEnd}
+use Rattle.serve.proofs.Words.{WorkerView, WorkOrder, zero, ℕ, [], ∥∥₁_map₂, ◌++◌, ◌+◌, ◌<◌, ◌==◌, ◌∙◌, ◌∷◌, ◌≡◌, ◌≤◌, ◌⊎◌}
+use Rattle.serve.specs.Joint.{IsPut, puts, is_offered, ticket_for, times_in}
 use Rattle.serve.proofs.JointCounts.{Pairs, count_map, PostsWithin, TakesThese, PutsNone, PutsThese, taken_within, offered_within}
 use Rattle.serve.proofs.Lookups.{not_there, is_within, front_at, split_at, by_index, to_index, map_at, map_back}
 

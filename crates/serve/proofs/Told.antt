@@ -1,22 +1,11 @@
 -- How the history of a loop in its thread goes on, tied to its pass.
-use Rattle.std.proofs.Common.{◌≡◌, ◌≢◌, List, [], ◌∷◌, ◌++◌, Option, Some, None, refl, sym, ap, subst, ◌∙◌, arith}
-use Rattle.std.proofs.Math.Logic.{∥∥₁_map}
-use Rattle.std.specs.Prelude.{option_to_list, IfSome, IfNone, OnOk, Result, Ok, Err}
-use Rattle.claims.specs.declared.seats.Ticket.{Ticket}
-use Rattle.order.specs.Orders.{order_of, end_of}
-use Rattle.order.specs.declared.order.Order.{Order}
-use Rattle.order.specs.declared.reply.Reply.{Reply}
-use Rattle.board.specs.Jobs.{ticket_of}
-use Rattle.board.specs.Boards.{Posts, Collects}
-use Rattle.phases.specs.History.{Event, OrderAsked, EndOffered, MovedBeside, emitted}
-use Rattle.serve.specs.declared.loop_thread.LoopThread.{LoopThread}
-use Rattle.serve.specs.declared.record.LoopRecord.{LoopRecord}
-use Rattle.reduction.proofs.StepByStep.{steps_join}
-use Rattle.serve.specs.Histories.{HasDone, ThreadStep, thread_calls}
-use Rattle.serve.specs.Inner.Ends.{offered_in, IsTied}
-use Rattle.serve.specs.Inner.Moves.{MovesBy, MovesAlone, RecordHandsOut, RecordPosts, IsOffered}
-use Rattle.serve.specs.Inner.Posts.{handed_out, PostsAmong, IsBehind}
-use Rattle.serve.specs.Inner.Threads.{HasTied, IsTiedSoFar, Stays, KeepsGoing}
+use Rattle.serve.proofs.Words.{ap, arith, Collects, emitted, end_of, EndOffered, Err, Event, handed_out, HasDone, HasTied, IsOffered, IsTied, IsTiedSoFar, List}
+use Rattle.serve.proofs.Words.{LoopRecord, LoopThread, MovedBeside, MovesAlone, MovesBy, None, offered_in, Ok, OnOk, Option, option_to_list, Order, order_of}
+use Rattle.serve.proofs.Words.{OrderAsked, Posts, PostsAmong, RecordHandsOut, RecordPosts, refl, Reply, Result, Some, steps_join, subst, sym, thread_calls}
+use Rattle.serve.proofs.Words.{ThreadStep, Ticket, ticket_of, [], ∥∥₁_map, ◌++◌, ◌∙◌, ◌∷◌, ◌≡◌, ◌≢◌}
+use Rattle.std.specs.Prelude.{IfSome, IfNone}
+use Rattle.serve.specs.Inner.Posts.{IsBehind}
+use Rattle.serve.specs.Inner.Threads.{Stays, KeepsGoing}
 use Rattle.serve.proofs.OneEventMore.{no_move, emitted_append, callbacks_append}
 use Rattle.serve.proofs.PostsBehind.{GoesBehind, goes_unposted, moves_posted, behind_posted, handed_append, found_then}
 use Rattle.serve.proofs.Tying.{tied_more, tied_less, tied_made, tied_post, tied_collect}

@@ -1,45 +1,32 @@
 -- What the steps of a turn that runs no callback leave: each active async is taken from, and at its end no own send waits.
-use Rattle.std.proofs.Common.{◌≡◌, ◌≢◌, ◌⊎◌, inl, inr, ℕ, suc, zero, ◌+◌, ◌-◌, ◌<◌, ◌&&◌, Bool, true, false, cond, not, List, [], ◌∷◌, ◌++◌, map, Option, Some, None}
-use Rattle.std.proofs.Common.{refl, sym, ap, subst, ◌∙◌, arith, slice_get}
-use Rattle.std.specs.Prelude.{slice_index, slice_set, filter, nat_le, option_map}
-use Rattle.std.proofs.lemmas.List.{get_or-set_other}
-use native.Mathlib.Decide.{ℕ_discrete}
-use Rattle.limits.specs.declared.TheConstants.{MAX_CALLBACKS}
+use Rattle.serve.proofs.Words.{ap, arith, BareDid, Bool, Calls, cond, Ended, EntryKind, Failed, false, filter, get_or-set_other, GuestCall, inl, inr, List}
+use Rattle.serve.proofs.Words.{Loop, LoopStep, map, next_in, None, not, opening, Option, option_map, Over, over, refl, Running, Seats, Setting, slice_get}
+use Rattle.serve.proofs.Words.{slice_index, slice_set, Some, State, Status, StepDid, subst, suc, sym, thread_calls, true, View, whole_did, zero, ℕ, ℕ_discrete}
+use Rattle.serve.proofs.Words.{[], ◌++◌, ◌+◌, ◌∙◌, ◌∷◌, ◌≡◌, ◌≢◌, ◌⊎◌}
+use Rattle.std.proofs.Common.{◌-◌, ◌&&◌}
+use Rattle.std.specs.Prelude.{nat_le}
 use Rattle.syntax.specs.declared.contents.Contents.{Contents}
 use Rattle.handles.specs.declared.handle.Kind.TheVariants as handle_kind
 use Rattle.handles.specs.declared.sorted.ListPlace.{ListPlace}
 use Rattle.handles.specs.Table.{Table, in_order, nearest_due, entry as place_entry}
 use Rattle.events.specs.declared.did.Hint.TheVariants.{Now, For, Forever}
-use Rattle.events.specs.declared.did.StepDid.{StepDid}
 use Rattle.events.specs.declared.did.StepDid.TheVariants.{Entered, Ran, Skipped}
 use Rattle.events.specs.declared.did.StepDid.TheVariants as step
-use Rattle.events.specs.declared.ended.Ended.{Ended}
-use Rattle.events.specs.declared.phase.EntryKind.{EntryKind}
 use Rattle.events.specs.declared.phase.EntryKind.TheVariants as kind
 use Rattle.events.specs.declared.phase.Phase.{Phase}
 use Rattle.events.specs.declared.phase.Phase.TheVariants.{Begin, Timers, Idle, Poll, Check, Closing}
 use Rattle.events.specs.Phases.{may_end, next_phase}
-use Rattle.phases.specs.Bare.{whole_did}
-use Rattle.phases.specs.Calls.{Calls, IsLawful}
-use Rattle.phases.specs.Guests.{GuestCall}
-use Rattle.phases.specs.Outside.{next_in}
+use Rattle.phases.specs.Calls.{IsLawful}
 use Rattle.phases.specs.PhaseList.{is_active_handle, active_from, active_asyncs, poll_list, timers_list, phase_list, handle_entry, until_due, hint_of, is_alive}
 use Rattle.phases.specs.Requests.{settled}
 use Rattle.phases.specs.Roster.{in_table, opening_roster}
-use Rattle.phases.specs.State.{Setting, State, Loop, opening}
-use Rattle.phases.specs.Step.{LoopStep, StepIn, ListStep}
-use Rattle.phases.specs.Step.{in_state, over, in_phase, phase_entered, now_in, turn}
-use Rattle.phases.specs.View.{View}
-use Rattle.phases.specs.declared.did.BareDid.{BareDid}
+use Rattle.phases.specs.Step.{StepIn, ListStep, in_state, in_phase, phase_entered, now_in, turn}
 use Rattle.phases.specs.declared.did.BareDid.TheVariants as bare
 use Rattle.phases.specs.declared.entry.Entry.{Entry}
 use Rattle.phases.specs.declared.entry.Entry.TheVariants as entry
-use Rattle.phases.specs.declared.entry.Status.{Status}
-use Rattle.phases.specs.declared.entry.Status.TheVariants.{Running, Over, Failed}
 use Rattle.phases.proofs.StepGoes.{EntryGoes, skips, runs as runs_back, works, SkipsAt, TakesOwn, entry_goes}
-use Rattle.pool.specs.declared.seats.Seats.{Seats}
 use Rattle.pool.specs.SeatsLaw.{seats_lawful}
-use Rattle.serve.specs.Histories.{HasActiveAsync, IsDrained, IsWaiting, thread_calls}
+use Rattle.serve.specs.Histories.{HasActiveAsync, IsDrained, IsWaiting}
 use Rattle.serve.specs.Inner.Turns.{enters_timers, runs, IsAtTurn, IsListed, IsToCome, Drains, MayGoOn}
 use Rattle.serve.proofs.SentAlone.{emptied}
 
@@ -280,15 +267,7 @@ handed_phase _ s = refl
 pub opening_goes : {S : Type 0} (calls : Calls S) (l : Loop S) (m : Contents) (list : List Entry) → l.state ≡ opening (opening_roster m) list → MayGoOn calls l 0
 opening_goes calls l m list is = (omega arith, λ a active. absurd (let it = rw is at active in cc))
 
--- a loop whose turn begins comes to each async yet
-pub drains_first : {S : Type 0} (calls : Calls S) (l : Loop S) (ran : ℕ) → MayGoOn calls l ran → Drains calls l
-drains_first calls l ran h a active = inl (rw (h.1 a active) tt)
-
--- and goes on where it may run callbacks yet
-pub goes_at_turn : {S : Type 0} (calls : Calls S) (l : Loop S) (ran : ℕ) → ran < MAX_CALLBACKS → IsAtTurn l.state → MayGoOn calls l ran
-goes_at_turn calls l ran few at = (few, λ a active. at.1)
-
--- so does it wait for ever
+-- a loop whose turn begins, and to which nothing comes any more, waits for ever
 pub waits : {S : Type 0} (calls : Calls S) (l : Loop S) → IsAtTurn l.state → l.state.requests.outstanding ≡ [] → hint_of l.state ≡ Forever → IsDrained calls l → IsWaiting calls l
 waits calls l at none forever drained = record { phase = at.1; none_due = at.2 ∙ none_due l.state forever; none_outstanding = none; for_ever = forever; drained = drained }
 

@@ -1,23 +1,9 @@
 -- How the history of a loop stays tied to what was done with its pass.
-use Rattle.std.proofs.Common.{◌≡◌, ℕ, ◌+◌, Bool, cond, List, [], ◌∷◌, ◌++◌, append-nil, length, map, get_or, Some, count_by, refl, sym, ap, ◌∙◌, subst, arith, All}
-use Rattle.std.specs.Prelude.{slice_get, slice_set}
-use Rattle.std.proofs.lemmas.List.{map-append, length-set}
-use Rattle.std.proofs.lemmas.List.Sums.{sum_by-append}
-use Rattle.std.proofs.lemmas.Option.{slice_get-get_or, get_or_from_slice_get}
-use native.Mathlib.Decide.{ℕ_discrete}
-use Rattle.tallies.proofs.Lists.{count_cons}
-use Rattle.claims.specs.declared.seats.Ticket.{Ticket}
-use Rattle.claims.specs.Views.{is_ticket}
-use Rattle.order.specs.Orders.{order_of, end_of}
-use Rattle.order.specs.Work.{WorkOrder, WorkEnd}
-use Rattle.order.specs.declared.order.Order.{Order}
-use Rattle.order.specs.declared.reply.Reply.{Reply}
-use Rattle.board.specs.Jobs.{ticket_of}
-use Rattle.board.specs.Views.{HandView}
-use Rattle.board.specs.Boards.{BoardView, PassView, IsNewPass, HasNumber, Posts, Collects}
-use Rattle.phases.specs.History.{Event, OrderAsked, EndOffered, MovedBeside}
-use Rattle.serve.specs.Inner.Ends.{offer_of, offered_in, IsTied}
-use Rattle.serve.specs.Joint.{asks}
+use Rattle.serve.proofs.Words.{ap, append-nil, arith, asks, BoardView, Bool, Collects, cond, count_by, count_cons, end_of, EndOffered, Event, get_or}
+use Rattle.serve.proofs.Words.{get_or_from_slice_get, HandView, HasNumber, is_ticket, IsNewPass, IsTied, length, length-set, List, map, MovedBeside, offer_of}
+use Rattle.serve.proofs.Words.{offered_in, Order, order_of, OrderAsked, PassView, Posts, refl, Reply, slice_get, slice_get-get_or, slice_set, Some, subst}
+use Rattle.serve.proofs.Words.{sum_by-append, sym, Ticket, ticket_of, WorkEnd, WorkOrder, ℕ, ℕ_discrete, [], ◌++◌, ◌+◌, ◌∙◌, ◌∷◌, ◌≡◌}
+use Rattle.std.proofs.lemmas.List.{map-append}
 use Rattle.serve.proofs.Lookups.{not_there, is_within, set_here, set_there, each_push}
 use Rattle.serve.proofs.OneEventMore.{offered_append}
 
@@ -125,12 +111,6 @@ module _ {J : Type 0} (ticket : J → Ticket) where
 
 -- a pass keeps its number
 module _ {J : Type 0} where
-  pub posts_number : (n : ℕ) (old new : PassView J) (job : J) → Posts old new job → HasNumber n old → HasNumber n new
-  posts_number n old new job posts h = record {
-    jobs = ap (λ (x : HandView J). x.number) posts.jobs ∙ h.jobs;
-    replies = subst (All (λ (x : HandView Reply). x.number ≡ n)) (sym posts.replies) h.replies;
-  }
-
   pub collects_number : (n k : ℕ) (old new : PassView J) (reply : Reply) → Collects old new k reply → HasNumber n old → HasNumber n new
   collects_number n k old new reply collects h = record {
     jobs = ap (λ (x : HandView J). x.number) collects.jobs ∙ h.jobs;

@@ -1,16 +1,9 @@
 -- What the pass and the seat of a worker say at its end.
-use Rattle.std.proofs.Common.{◌≡◌, ℕ, ◌+◌, [], ◌++◌, length, map, Some, sym, ap, ◌∙◌, subst, arith}
-use Rattle.std.proofs.Math.Logic.{∥∥₁_map}
-use Rattle.std.specs.Prelude.{slice_get}
+use Rattle.serve.proofs.Words.{ap, arith, BoardView, ClaimsView, DidTurns, EachOnce, get_or_from_slice_get, HandView, HasNumber, IsNewPass, IsPassOf, length}
+use Rattle.serve.proofs.Words.{map, new_worker_view, PassView, put_for, Reply, same_Some, slice_get, slice_get-get_or, Some, started_by, subst, sym, Ticket}
+use Rattle.serve.proofs.Words.{WorkerEnds, WorkerView, ℕ, [], ∥∥₁_map, ◌++◌, ◌+◌, ◌∙◌, ◌≡◌}
 use Rattle.std.proofs.lemmas.List.{length-map}
-use Rattle.std.proofs.lemmas.Option.{same_Some, slice_get-get_or, get_or_from_slice_get}
-use Rattle.claims.specs.declared.seats.Ticket.{Ticket}
-use Rattle.claims.specs.Views.{ClaimsView, WorkerView, EachOnce, new_worker_view}
-use Rattle.order.specs.declared.reply.Reply.{Reply}
-use Rattle.board.specs.Views.{HandView}
-use Rattle.board.specs.Boards.{BoardView, PassView, IsPassOf, IsNewPass, HasNumber}
-use Rattle.pool.specs.Turns.{TookSome, started_by, put_for}
-use Rattle.serve.specs.Inner.Ends.{DidTurns, WorkerEnds}
+use Rattle.pool.specs.Turns.{TookSome}
 use Rattle.serve.proofs.Lookups.{is_within, is_there}
 
 module _ {J : Type 0} (ticket : J → Ticket) where

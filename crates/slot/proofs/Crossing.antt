@@ -1,9 +1,8 @@
 -- What a pointer leads to may go to another thread where its type may.
+use Rattle.slot.proofs.Words.{block_ptr, Keyless, null_ptr, Ptr, RattleType}
 use base.Fraction.{full_share}
-use base.Shift.{Keyless}
 use denote.Exit.{Exit, unchanged, leaves, hidden, under}
-use denote.RattleType.{RattleType}
-use denote.RawPtr.{Ptr, block_ptr, null_ptr, lies_at}
+use denote.RawPtr.{lies_at}
 use denote.Param.Send.{IsSend, Quiet, part_keyless}
 
 pub quiet : {D X : Type 0} (to : D → X) (e : Exit X) → Quiet e → Quiet (hidden (under to e))

@@ -1,22 +1,13 @@
 -- A valid module keeps every rule that a refusal may name.
-use Rattle.std.proofs.Common.{◌≡◌, ℕ, List, [], Option, Some, None, IsSome, IfSome, slice_get, ◌⊎◌, inl, inr, refl, sym, ap}
-use Rattle.syntax.specs.declared.types.ValType.{ValType}
-use Rattle.syntax.specs.declared.types.BlockType.{BlockType}
-use Rattle.syntax.specs.declared.instruction.Instr.{Instr}
-use Rattle.syntax.specs.declared.instruction.Instr.TheVariants.{Br, BrIf, BrTable, Call, CallIndirect, LocalGet, LocalSet, LocalTee, GlobalGet, GlobalSet, Load}
-use Rattle.syntax.specs.declared.instruction.Instr.TheVariants.{LoadNarrow, Store, StoreNarrow, MemorySize, MemoryGrow}
-use Rattle.syntax.specs.declared.contents.Contents.{Contents}
-use Rattle.syntax.specs.declared.contents.FuncType.{FuncType}
-use Rattle.syntax.specs.declared.contents.Func.{Func}
-use Rattle.syntax.specs.declared.contents.Import.{Import}
-use Rattle.syntax.specs.Code.{Code, Done, Plain, Structured, If}
-use Rattle.validate.specs.declared.fault.ValidFault.{ValidFault}
+use Rattle.validate.proofs.Words.{body_context, label_types, Mutabilities, NamesLabels, StoreNarrow, type_of_block, type_of_function, type_or_none, ValidImport}
+use Rattle.validate.proofs.Words.{Alignments, BlockType, GlobalGet, HasFew, InstrTyped, LoadNarrow, MemoryGrow, MemorySize, Structured, ValidFault, ValidModule}
+use Rattle.validate.proofs.Words.{BrTable, Contents, Context, FuncType, GlobalSet, inl, KeepsType, LocalGet, LocalSet, LocalTee, shape_of, slice_get, ValidFunc}
+use Rattle.validate.proofs.Words.{IfSome, Import, Indexes, inr, inside, Instr, IsLow, IsNamed, IsSome, IsTyped, KeptIn, Labels, Option, Plain, Refutes, ValType}
+use Rattle.validate.proofs.Words.{ap, Br, BrIf, Call, Code, Done, Func, If, Kept, List, Load, None, refl, Rule, Some, Store, sym, Typed, ℕ, [], ◌≡◌, ◌⊎◌}
+use Rattle.syntax.specs.declared.instruction.Instr.TheVariants.{CallIndirect}
 use Rattle.validate.specs.declared.fault.ValidFault.TheVariants as fault
-use Rattle.validate.specs.Typing.{Context, InstrTyped, Typed, inside, label_types, type_of_block, HasFunctionType, type_of_function}
-use Rattle.validate.specs.Height.{shape_of, type_or_none}
-use Rattle.validate.specs.Rules.{Rule, Indexes, Labels, Alignments, Mutabilities, NamesAll, NamesLabels, IsAligned, SetsVariables, Keeps, KeepsType, Kept}
-use Rattle.validate.specs.Valid.{ValidFunc, ValidImport, ValidModule, body_context}
-use Rattle.validate.specs.Refusals.{HasFew, IsNamed, IsTyped, KeptIn, IsLow, Refutes}
+use Rattle.validate.specs.Typing.{HasFunctionType}
+use Rattle.validate.specs.Rules.{NamesAll, IsAligned, SetsVariables, Keeps}
 use Rattle.validate.specs.Sites.{BreaksAt}
 use Rattle.validate.specs.declared.site.InvalidAt.{InvalidAt}
 use Rattle.validate.proofs.Refused.{refutes_at}

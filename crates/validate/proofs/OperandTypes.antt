@@ -1,12 +1,9 @@
 -- Operands that are taken and left, and the types that they stand for.
-use Rattle.std.proofs.Common.{◌≡◌, ℕ, ◌+◌, ◌-◌, ◌≤◌, List, [], ◌∷◌, ◌++◌, length, take, drop, reverse, map, Bool, true, false, ◌↔◌, refl, sym, ap, ◌∙◌, arith}
-use Rattle.std.proofs.lemmas.List.{reverse-append, take-append-drop, drop_all, take_all, take_at, drop_at, length-reverse, length-drop, nil_from_length, length-map}
-use Rattle.syntax.specs.declared.types.ValType.{ValType}
-use Rattle.validate.specs.declared.operands.Operand.{Operand}
-use Rattle.validate.specs.declared.operands.Operand.TheVariants.{Known}
-use Rattle.validate.specs.declared.operands.Enclosing.{Enclosing}
-use Rattle.validate.specs.Stack.{pushed}
-use Rattle.validate.specs.Inner.Operands.{Held, held_of, held_around, Matches, FitsList, Takes, with_left, TakesLeaves}
+use Rattle.validate.proofs.Words.{ap, arith, Bool, drop, drop_all, drop_at, Enclosing, false, FitsList, Held, held_around, held_of, Known, length, length-drop}
+use Rattle.validate.proofs.Words.{length-map, List, map, Matches, Operand, pushed, refl, sym, take, take-append-drop, take_all, take_at, Takes, TakesLeaves}
+use Rattle.validate.proofs.Words.{true, ValType, with_left, ℕ, [], ◌++◌, ◌+◌, ◌-◌, ◌∙◌, ◌∷◌, ◌≡◌, ◌≤◌}
+use Rattle.std.proofs.Common.{reverse, ◌↔◌}
+use Rattle.std.proofs.lemmas.List.{reverse-append, length-reverse, nil_from_length}
 
 pub reverse-parts : (b : ℕ) (xs : List Operand) → reverse (drop b xs) ++ reverse (take b xs) ≡ reverse xs
 reverse-parts b xs = sym (reverse-append (take b xs) (drop b xs)) ∙ ap reverse (take-append-drop b xs)

@@ -1,23 +1,9 @@
 -- What a block keeps, its parts keep.
-use Rattle.std.proofs.Common.{◌≡◌, ℕ, ◌+◌, ◌-◌, ◌≤◌, max, List, [], ◌∷◌, ◌++◌, length, map, false, Option, Some, None, suc, sym, ap, subst, ◌∙◌, arith}
-use Rattle.std.proofs.lemmas.List.{length-append, length-map, length_push}
-use Rattle.limits.specs.declared.TheConstants.{MAX_HEIGHT, MAX_NESTING}
-use Rattle.syntax.specs.declared.types.ValType.{ValType}
-use Rattle.syntax.specs.declared.types.ValType.TheVariants.{I32}
-use Rattle.syntax.specs.declared.types.BlockType.{BlockType}
-use Rattle.syntax.specs.declared.instruction.Instr.{Instr}
-use Rattle.syntax.specs.declared.contents.FuncType.{FuncType}
-use Rattle.syntax.specs.Code.{Code, BlockKind, AsBlock, Done, Plain, Structured, If}
-use Rattle.validate.specs.declared.operands.Operand.{Operand}
-use Rattle.validate.specs.declared.operands.Operand.TheVariants.{Known}
-use Rattle.validate.specs.declared.frames.ControlFrame.{ControlFrame}
-use Rattle.validate.specs.declared.scope.Scope.{Scope}
-use Rattle.validate.specs.Typing.{Context, inside, label_types, type_of_block}
-use Rattle.validate.specs.Height.{greatest_height, nesting, shape_of, type_or_none, effect_of, after_effect}
-use Rattle.validate.specs.Rules.{Rule, Kept}
-use Rattle.validate.specs.Inner.Frames.{label_of}
-use Rattle.validate.specs.Inner.Operands.{Held, held_of, held_around, with_left}
-use Rattle.validate.specs.Inner.Checking.{Checks, context_in, height_in_all}
+use Rattle.validate.proofs.Words.{after_effect, ap, arith, AsBlock, BlockKind, BlockType, Checks, Code, Context, context_in, ControlFrame, Done, effect_of}
+use Rattle.validate.proofs.Words.{false, FuncType, greatest_height, height_in_all, Held, held_around, held_of, I32, If, inside, Instr, Kept, Known, label_of}
+use Rattle.validate.proofs.Words.{label_types, length, length-append, length-map, length_push, List, map, max, MAX_HEIGHT, MAX_NESTING, nesting, None, Operand}
+use Rattle.validate.proofs.Words.{Option, Plain, Rule, Scope, shape_of, Some, Structured, subst, suc, sym, type_of_block, type_or_none, ValType, with_left, ℕ}
+use Rattle.validate.proofs.Words.{[], ◌++◌, ◌+◌, ◌-◌, ◌∙◌, ◌∷◌, ◌≡◌, ◌≤◌}
 use Rattle.validate.proofs.OperandTypes.{length-pushed}
 use Rattle.validate.proofs.Opens.{Open, open_of, loops, label_is, shape_in, returned}
 use Rattle.validate.proofs.Remains.{IfKept, IfLow, IfNested, LowOpens}

@@ -1,19 +1,11 @@
 -- Why an instruction that finds too few operands is refused, or others than it takes.
-use Rattle.std.proofs.Common.{◌≡◌, ℕ, ◌+◌, ◌<◌, List, [], ◌∷◌, ◌++◌, length, take, drop, get_or, Bool, true, false, Some, slice_get, ◌⊎◌, inl, inr, refl, sym, ap, ◌∙◌}
-use Rattle.std.proofs.lemmas.List.{drop_more, take-append-drop}
-use Rattle.syntax.specs.declared.types.ValType.{ValType}
-use Rattle.syntax.specs.declared.types.ValType.TheVariants.{I32}
-use Rattle.syntax.specs.declared.instruction.Instr.{Instr}
+use Rattle.validate.proofs.Words.{ap, BodyFault, Bool, Checker, context_at, drop, drop_more, false, FitsList, get_or, Held, I32, inl, inr, Instr, length, List}
+use Rattle.validate.proofs.Words.{Operand, pushed, refl, Rejects, slice_get, Some, sym, take, take-append-drop, Takes, true, ValType, ℕ, [], ◌++◌, ◌+◌, ◌<◌}
+use Rattle.validate.proofs.Words.{◌∙◌, ◌∷◌, ◌≡◌, ◌⊎◌}
 use Rattle.syntax.specs.declared.instruction.Instr.TheVariants as instr
 use Rattle.syntax.specs.declared.instruction.Token.TheVariants as op
-use Rattle.validate.specs.declared.operands.Operand.{Operand}
-use Rattle.validate.specs.declared.checker.Checker.{Checker}
-use Rattle.validate.specs.declared.fault.BodyFault.{BodyFault}
 use Rattle.validate.specs.declared.fault.BodyFault.TheVariants as fault
-use Rattle.validate.specs.Stack.{pushed}
-use Rattle.validate.specs.Inner.Operands.{Held, FitsList, Lacks, Takes}
-use Rattle.validate.specs.Inner.Checking.{context_at}
-use Rattle.validate.specs.Inner.Rejecting.{Rejects}
+use Rattle.validate.specs.Inner.Operands.{Lacks}
 use Rattle.validate.proofs.Items.{same_some}
 use Rattle.validate.proofs.OperandTypes.{pushed-push, pushed-append, takes_none}
 use Rattle.validate.proofs.Checks.{IsTurn}

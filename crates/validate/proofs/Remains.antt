@@ -1,19 +1,8 @@
 -- What the rest of a body keeps where the whole does: the rules of what is named, the height and the nesting.
-use Rattle.std.proofs.Common.{◌≡◌, ℕ, ◌+◌, ◌≤◌, ◌<◌, List, [], ◌∷◌, length, Option, Some, None, subst, arith}
-use Rattle.limits.specs.declared.TheConstants.{MAX_HEIGHT, MAX_NESTING}
-use Rattle.syntax.specs.declared.types.BlockType.{BlockType}
-use Rattle.syntax.specs.declared.instruction.Token.{Token}
+use Rattle.validate.proofs.Words.{arith, AsBlock, AsLoop, BeginsBlock, BlockKind, BlockType, Code, Context, context_in, ControlFrame, Done, FuncType}
+use Rattle.validate.proofs.Words.{greatest_height, height_in_all, Held, If, KeepsType, Kept, length, List, MAX_HEIGHT, MAX_NESTING, nesting, None, Obeys}
+use Rattle.validate.proofs.Words.{opening_bracket, Option, Plain, Rule, Scope, Some, Structured, subst, Token, ℕ, [], ◌+◌, ◌<◌, ◌∷◌, ◌≡◌, ◌≤◌}
 use Rattle.syntax.specs.declared.instruction.Token.TheVariants as op
-use Rattle.syntax.specs.declared.contents.FuncType.{FuncType}
-use Rattle.syntax.specs.Code.{Code, BlockKind, AsBlock, AsLoop, Done, Plain, Structured, If, opening_bracket}
-use Rattle.validate.specs.declared.frames.ControlFrame.{ControlFrame}
-use Rattle.validate.specs.declared.scope.Scope.{Scope}
-use Rattle.validate.specs.Typing.{Context}
-use Rattle.validate.specs.Height.{greatest_height, nesting}
-use Rattle.validate.specs.Rules.{Rule, KeepsType, Kept}
-use Rattle.validate.specs.Inner.Operands.{Held}
-use Rattle.validate.specs.Inner.Checking.{context_in, height_in_all}
-use Rattle.validate.specs.Inner.Rejecting.{Obeys, BeginsBlock}
 use Rattle.validate.proofs.Opens.{Open, open_of, flat_of, shape_in, returned}
 
 -- ---- the rules of what is named

@@ -1,13 +1,9 @@
 -- Equal lists of types.
-use Rattle.std.proofs.Common.{◌≡◌, List, [], ◌∷◌, Bool, true, false, ◌&&◌, Some, refl, sym, ap, ◌∙◌, ◌↔◌, IsTrue}
+use Rattle.validate.proofs.Words.{ap, Bool, Contents, false, function_types, FuncType, I32, I64, List, Option, refl, slice_get, Some, sym, true}
+use Rattle.validate.proofs.Words.{type_of_function, ValType, ℕ, [], ◌∙◌, ◌∷◌, ◌≡◌}
+use Rattle.std.proofs.Common.{◌&&◌, ◌↔◌, IsTrue}
 use Rattle.std.proofs.lemmas.Bool.{and_parts}
-use Rattle.syntax.specs.declared.types.ValType.{ValType}
-use Rattle.syntax.specs.declared.types.ValType.TheVariants.{I32, I64}
-use Rattle.syntax.specs.declared.contents.FuncType.{FuncType}
-use Rattle.syntax.specs.declared.contents.Contents.{Contents}
-use Rattle.std.specs.Prelude.{slice_get, Option, ℕ}
 use Rattle.std.specs.Option.{option_and_then}
-use Rattle.validate.specs.Typing.{function_types, type_of_function}
 use Rattle.validate.specs.SameTypes.{same_valtype, same_valtypes, same_type}
 
 same_valtype-is : (t u : ValType) → same_valtype t u ≡ true → t ≡ u

@@ -1,16 +1,11 @@
 -- What typing keeps: types beneath both stacks, and one sequence behind another.
-use Rattle.std.proofs.Common.{◌≡◌, List, [], ◌∷◌, ◌++◌, refl, sym, ap, ◌∙◌}
-use Rattle.syntax.specs.declared.types.ValType.{ValType}
-use Rattle.syntax.specs.declared.types.ValType.TheVariants.{I32, I64}
+use Rattle.validate.proofs.Words.{ap, Br, BrIf, BrTable, Call, Code, Const, Context, Done, GlobalGet, GlobalSet, I32, I64, If, Instr, InstrTyped, List, Load}
+use Rattle.validate.proofs.Words.{LoadNarrow, LocalGet, LocalSet, LocalTee, MemoryGrow, MemorySize, Plain, pushed, refl, Store, StoreNarrow, Structured, sym}
+use Rattle.validate.proofs.Words.{type_of, Typed, ValType, [], ◌++◌, ◌∙◌, ◌∷◌, ◌≡◌}
 use Rattle.syntax.specs.declared.operator.Conversion.{Conversion}
 use Rattle.syntax.specs.declared.operator.Conversion.TheVariants.{I32WrapI64, I64ExtendI32S, I64ExtendI32U}
-use Rattle.syntax.specs.declared.instruction.Instr.{Instr}
-use Rattle.syntax.specs.declared.instruction.Instr.TheVariants.{Unreachable, Nop, Br, BrIf, BrTable, Return, Call, CallIndirect, Drop, Select, LocalGet}
-use Rattle.syntax.specs.declared.instruction.Instr.TheVariants.{LocalSet, LocalTee, GlobalGet, GlobalSet, Load, LoadNarrow, Store, StoreNarrow, MemorySize}
-use Rattle.syntax.specs.declared.instruction.Instr.TheVariants.{MemoryGrow, Const, Eqz, Unary, Binary, Compare, Convert}
-use Rattle.syntax.specs.Code.{Code, Done, Plain, Structured, If}
-use Rattle.validate.specs.Stack.{pushed}
-use Rattle.validate.specs.Typing.{Context, TakesLeaves, ConversionTurns, InstrTyped, Typed, type_of}
+use Rattle.syntax.specs.declared.instruction.Instr.TheVariants.{Unreachable, Nop, Return, CallIndirect, Drop, Select, Eqz, Unary, Binary, Compare, Convert}
+use Rattle.validate.specs.Typing.{TakesLeaves, ConversionTurns}
 use Rattle.validate.specs.Sequences.{joined}
 
 pushed-over : (xs stack more : List ValType) → pushed xs (stack ++ more) ≡ pushed xs stack ++ more

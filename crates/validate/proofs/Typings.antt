@@ -1,22 +1,9 @@
 -- What is left of a body whose whole is typed: each open block is typed from something that its operands stand for.
-use Rattle.std.proofs.Common.{◌≡◌, ◌++◌, List, [], ◌∷◌, length, false, Option, Some, None, refl, sym, ap, subst, ◌∙◌, arith}
-use Rattle.syntax.specs.declared.types.ValType.{ValType}
-use Rattle.syntax.specs.declared.types.ValType.TheVariants.{I32}
-use Rattle.syntax.specs.declared.types.BlockType.{BlockType}
-use Rattle.syntax.specs.declared.instruction.Instr.{Instr}
-use Rattle.syntax.specs.declared.instruction.Token.{Token}
+use Rattle.validate.proofs.Words.{ap, arith, AsBlock, AsLoop, BlockKind, BlockType, Checker, Checks, Code, Context, context_in, ControlFrame, Done, false, Fits}
+use Rattle.validate.proofs.Words.{FuncType, Held, held_around, held_of, I32, If, Instr, label_of, label_types, length, List, None, opening_bracket, Option}
+use Rattle.validate.proofs.Words.{Plain, pushed, refl, Scope, Some, Structured, subst, sym, Token, type_of_block, type_or_none, Typed, ValType, with_left, []}
+use Rattle.validate.proofs.Words.{◌++◌, ◌∙◌, ◌∷◌, ◌≡◌}
 use Rattle.syntax.specs.declared.instruction.Token.TheVariants as op
-use Rattle.syntax.specs.declared.contents.FuncType.{FuncType}
-use Rattle.syntax.specs.Code.{Code, BlockKind, AsBlock, AsLoop, Done, Plain, Structured, If, opening_bracket}
-use Rattle.validate.specs.declared.frames.ControlFrame.{ControlFrame}
-use Rattle.validate.specs.declared.scope.Scope.{Scope}
-use Rattle.validate.specs.declared.checker.Checker.{Checker}
-use Rattle.validate.specs.Stack.{pushed}
-use Rattle.validate.specs.Typing.{Context, Typed, label_types, type_of_block}
-use Rattle.validate.specs.Height.{type_or_none}
-use Rattle.validate.specs.Inner.Frames.{label_of}
-use Rattle.validate.specs.Inner.Operands.{Held, held_of, held_around, with_left, Fits}
-use Rattle.validate.specs.Inner.Checking.{Checks, context_in}
 use Rattle.validate.specs.Inner.Rejecting.{MayBegin, MayFollow}
 use Rattle.validate.proofs.Items.{same_some}
 use Rattle.validate.proofs.OperandTypes.{fits_more, pushed-push}

@@ -1,16 +1,11 @@
 -- A loop in a step keeps the number that its jobs carry.
-use Rattle.std.proofs.Common.{◌≡◌, ℕ, sym, ap, ◌∙◌, subst}
+use Rattle.wasmloop_c.proofs.Names.{ap, Core, Desk, desk_calls, HeldLoop, StepBegins, StepGoesOn, StepSlice, subst, sym, ℕ, ◌∙◌, ◌≡◌}
 use Rattle.std.proofs.Math.Logic.{∥∥₁_elim, ∥∥₁_map}
 use Rattle.std.proofs.Math.Nat.{ℕ_set}
-use Rattle.desk.specs.Desk.{Desk, desk_calls}
-use Rattle.phases.specs.Slices.{StepBegins, StepGoesOn}
-use Rattle.phases.specs.State.{Core}
 use Rattle.phases.specs.Underway.{StepInSlices}
-use Rattle.phases.specs.declared.slices.StepSlice.{StepSlice}
 use Rattle.phases.specs.declared.slices.StepSlice.TheVariants as slice
 use Rattle.wasmloop_c.specs.Inner.Held.{IsStepOfLoop}
 use Rattle.wasmloop_c.specs.StepSlices.{IsOfLoop}
-use Rattle.wasmloop_c.specs.declared.held.HeldLoop.{HeldLoop}
 
 pub goes_on : (number : ℕ) (s : StepInSlices Desk) (units : ℕ) (it : StepSlice Desk) → ∥ IsStepOfLoop number s ∥₁ → StepGoesOn desk_calls s units it → IsOfLoop number it
 goes_on number s units (slice.Over d did) of goes = ∥∥₁_elim of (ℕ_set d.setting.loop_no number) (λ it. ap (λ (g : _). g.loop_no) (goes.steps it.0 it.1).0 ∙ it.2)

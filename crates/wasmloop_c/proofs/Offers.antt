@@ -1,9 +1,6 @@
 -- A job that a loop is offered: what more holds where it is left, and where it is taken.
-use Rattle.std.proofs.Common.{◌≡◌, ℕ, inl, inr}
-use Rattle.phases.specs.State.{Core}
-use Rattle.desk.specs.Desk.{Desk}
+use Rattle.wasmloop_c.proofs.Names.{Core, Desk, inl, inr, OK, ℕ, ◌≡◌}
 use Rattle.wasmloop_c.specs.Calls.{OffersStage}
-use Rattle.wasmloop_c.specs.declared.status.TheConstants.{OK}
 use Rattle.wasmloop_c.specs.declared.thing.JobStage.{JobStage}
 use Rattle.wasmloop_c.specs.declared.thing.JobStage.TheVariants as stage
 

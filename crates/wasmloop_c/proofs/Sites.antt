@@ -63,22 +63,7 @@ module _ {X : Type 0} (Is : Operation → X → Type 0) (sites : List Operation)
       within = let in_sites = slice_get_within sites index site at in omega (arith, in_sites);
     }
 
-  -- there is no more room, or no more to copy
-  pub all_copied : (into : List X) → CopiedBelow (length old) into → CopiesSites Is sites old into
-  all_copied into copied = record {
-    room = copied.room;
-    each = λ i s at less. copied.each i s at less;
-    rest = λ i none. rest i none (cases_lt i (length old));
-  } where
-    past_end : (xs : List Operation) (i : ℕ) → slice_get xs i ≡ None → i < length xs → ⊥
-    past_end [] i none less = absurd (omega (arith, less))
-    past_end (y ∷ xs) zero none less = absurd cc
-    past_end (y ∷ xs) (suc i) none less = past_end xs i none (omega (arith, less))
-
-    rest : (i : ℕ) → slice_get sites i ≡ None → (i < length old) ⊎ (length old ≤ i) → slice_get into i ≡ slice_get old i
-    rest i none (inl less) = absurd (past_end sites i none (omega (arith, less, copied.within)))
-    rest i none (inr past) = copied.rest i past
-
+  -- there is no more to copy
   pub all_known : (index : ℕ) (into : List X) → CopiedBelow index into → slice_get sites index ≡ None → CopiesSites Is sites old into
   all_known index into copied none = record {
     room = copied.room;

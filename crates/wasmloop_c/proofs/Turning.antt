@@ -1,12 +1,9 @@
 -- The steps of a turn, one after the other.
-use Rattle.std.proofs.Common.{◌≡◌, ◌≤◌, ◌<◌, ◌+◌, ◌-◌, ◌^◌, ◌==◌, ◌||◌, ℕ, Bool, true, false, List, [], ◌∷◌, length, refl, sym, ap, ◌∙◌, subst, inl, inr, arith}
+use Rattle.wasmloop_c.proofs.Names.{ap, arith, Bool, Core, Desk, Did, ends_turn, false, inl, inr, length, List, NoneEnds, one_if, RAN, ran_in, refl}
+use Rattle.wasmloop_c.proofs.Names.{StepsNumbered, subst, sym, TakesSteps, true, ℕ, [], ◌+◌, ◌-◌, ◌<◌, ◌==◌, ◌^◌, ◌∙◌, ◌∷◌, ◌≡◌, ◌≤◌}
+use Rattle.std.proofs.Common.{◌||◌}
 use Rattle.std.specs.Prelude.{nat_le, if◌then◌else◌}
-use Rattle.desk.specs.Desk.{Desk}
-use Rattle.phases.specs.State.{Core}
-use Rattle.wasmloop_c.specs.Calls.{StepsNumbered, one_if}
-use Rattle.wasmloop_c.specs.Turning.{ends_turn, ran_in, TakesSteps, NoneEnds, TurnSteps}
-use Rattle.wasmloop_c.specs.declared.did.Did.{Did}
-use Rattle.wasmloop_c.specs.declared.did.TheConstants.{RAN}
+use Rattle.wasmloop_c.specs.Turning.{TurnSteps}
 
 -- a callback that does not end the turn is not the last one that may run
 pub one_more_may : (is_callback emitted stopped other : Bool) (most ran : ℕ) → ran < most

@@ -1,30 +1,18 @@
 -- The steps of a turn in slices, one after the other.
-use Rattle.std.proofs.Common.{◌≡◌, ◌≤◌, ◌<◌, ◌+◌, ◌==◌, ◌⊎◌, ℕ, true, false, List, [], ◌∷◌, length, refl, sym, ap, ◌∙◌, subst, inl, inr, arith}
-use Rattle.std.specs.Prelude.{Some}
-use Rattle.desk.specs.Desk.{Desk, desk_calls}
+use Rattle.wasmloop_c.proofs.Names.{ap, arith, Core, counted_on, Desk, desk_calls, Did, ends_turn, false, HeldLoop, inl, inr, length, List, LoopStage, NoneEnds}
+use Rattle.wasmloop_c.proofs.Names.{OK, one_if, RAN, ran_in, refl, SliceEnd, Some, StepBegins, StepGoesOn, StepIsTaken, StepSlice, StepsNumbered, subst, sym}
+use Rattle.wasmloop_c.proofs.Names.{TakesSteps, true, Turned, Turning, used_in, ℕ, [], ◌+◌, ◌<◌, ◌==◌, ◌∙◌, ◌∷◌, ◌≡◌, ◌≤◌, ◌⊎◌}
 use Rattle.events.specs.declared.did.StepDid.{StepDid}
 use Rattle.events.specs.declared.did.StepDid.TheVariants as step_did
-use Rattle.phases.specs.Slices.{StepBegins, StepGoesOn}
-use Rattle.phases.specs.State.{Core}
 use Rattle.phases.specs.Step.{RanNone}
 use Rattle.phases.specs.Underway.{StepInSlices, StepHasCome, used_by_step}
-use Rattle.phases.specs.declared.slices.StepSlice.{StepSlice}
 use Rattle.phases.specs.declared.slices.StepSlice.TheVariants as slice
-use Rattle.wasmloop_c.specs.Calls.{StepsNumbered, core_in, one_if}
+use Rattle.wasmloop_c.specs.Calls.{core_in}
 use Rattle.wasmloop_c.specs.Numbers.{did_of}
 use Rattle.wasmloop_c.specs.StepSlices.{LeftByStep, RunsStep, step_held}
-use Rattle.wasmloop_c.specs.TurnSlices.{LoopIsAt, SliceEnds, SliceGoesOn, StepIsTaken, StepIsUnderway, TakesSlices, TurnsStage, WaitsFor, counted_on, fuel_in, last_did, refusal, used_in}
-use Rattle.wasmloop_c.specs.Turning.{ends_turn, ran_in, NoneEnds, TakesSteps}
-use Rattle.wasmloop_c.specs.declared.did.Did.{Did}
-use Rattle.wasmloop_c.specs.declared.did.TheConstants.{RAN}
-use Rattle.wasmloop_c.specs.declared.held.HeldLoop.{HeldLoop}
-use Rattle.wasmloop_c.specs.declared.status.TheConstants.{OK}
-use Rattle.wasmloop_c.specs.declared.step_slices.SliceEnd.{SliceEnd}
+use Rattle.wasmloop_c.specs.TurnSlices.{LoopIsAt, SliceEnds, SliceGoesOn, StepIsUnderway, TakesSlices, TurnsStage, WaitsFor, fuel_in, last_did, refusal}
 use Rattle.wasmloop_c.specs.declared.step_slices.SliceEnd.TheVariants as end
-use Rattle.wasmloop_c.specs.declared.thing.LoopStage.{LoopStage}
 use Rattle.wasmloop_c.specs.declared.thing.LoopStage.TheVariants as stage
-use Rattle.wasmloop_c.specs.declared.turn.Turned.{Turned}
-use Rattle.wasmloop_c.specs.declared.turn_slices.Turning.{Turning}
 use Rattle.wasmloop_c.specs.declared.turn_slices.TurnLeft.{TurnLeft}
 use Rattle.wasmloop_c.proofs.Turning.{one_more_may}
 

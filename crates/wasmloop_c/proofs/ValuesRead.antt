@@ -1,18 +1,16 @@
 -- Numbers that are read as values, one after another.
-use Rattle.std.proofs.Common.{◌≡◌, ◌≢◌, ℕ, zero, suc, ◌+◌, ◌<◌, List, [], ◌∷◌, ◌++◌, length, map, take, Option, Some, None, refl, ap, ◌∙◌, add-one}
-use Rattle.std.specs.Prelude.{slice_get, nat_lt, Bool, true, false, ◌^◌, if◌then◌else◌}
-use Rattle.syntax.specs.declared.contents.Contents.{Contents}
-use Rattle.syntax.specs.declared.contents.FuncType.{FuncType}
-use Rattle.validate.specs.Typing.{HasFunctionType}
+use Rattle.wasmloop_c.proofs.Names.{ap, Bool, Contents, false, FuncType, length, List, map, None, Option, refl, Some, take, true, Value, values_of, ℕ, [], ◌++◌}
+use Rattle.wasmloop_c.proofs.Names.{◌+◌, ◌<◌, ◌^◌, ◌∙◌, ◌∷◌, ◌≡◌}
+use Rattle.std.proofs.Common.{◌≢◌, zero, suc, add-one}
+use Rattle.std.specs.Prelude.{slice_get, nat_lt, if◌then◌else◌}
+use Rattle.validate.specs.Typing.{HasFunctionType, type_of}
 use Rattle.reduction.specs.Invoking.{TakesArguments}
 use Rattle.std.proofs.lemmas.Option.{get_or_from_slice_get}
 use Rattle.std.proofs.Math.Seq.{take-suc}
 use Rattle.syntax.specs.declared.types.ValType.{ValType}
 use Rattle.syntax.specs.declared.types.ValType.TheVariants as type
-use Rattle.syntax.specs.declared.types.Value.{Value}
 use Rattle.syntax.specs.declared.types.Value.TheVariants.{I32, I64}
-use Rattle.validate.specs.Typing.{type_of}
-use Rattle.wasmloop_c.specs.Values.{typed, both, values_of}
+use Rattle.wasmloop_c.specs.Values.{typed, both}
 
 -- one more of a list's front
 one_longer : {A : Type 0} (xs : List A) (k : ℕ) (x : A) → k < length xs → slice_get xs k ≡ Some x → take (k + 1) xs ≡ take k xs ++ x ∷ []

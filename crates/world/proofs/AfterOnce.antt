@@ -1,36 +1,18 @@
 -- The law of a loop's histories, as it stands of the runs of a world.
-use Rattle.std.proofs.Common.{◌≡◌, ◌↔◌, ℕ, ◌≤◌, ◌==◌, Bool, true, false, cond, inl, inr, List, [], ◌∷◌, ◌++◌, map, length, Option, Some, None, refl}
-use Rattle.std.proofs.Common.{sym, ap, subst, ◌∙◌, arith}
-use Rattle.std.specs.Prelude.{slice_get}
-use Rattle.std.specs.List.{Contains, count_by}
-use Rattle.std.specs.Option.{is_some}
-use Rattle.std.proofs.lemmas.Bool.{and_parts, eqb-true}
-use Rattle.std.proofs.lemmas.List.Sums.{sum_by_push}
-use Rattle.limits.specs.declared.TheConstants.{MAX_JOBS}
-use Rattle.order.specs.Work.{WorkOrder}
-use Rattle.tallies.proofs.Places.{set_here}
-use Rattle.tallies.proofs.Requests.{either}
-use Rattle.events.specs.declared.did.StepDid.{StepDid}
+use Rattle.world.proofs.Words.{and_parts, Answer, ap, AreDue, AreTold, arith, Bool, CollectsFrom, Completion, cond, Contains, Core, core, count_by, Desk}
+use Rattle.world.proofs.Words.{desk_calls, either, entry_told, eqb-true, Event, EventStep, false, FinishesJob, GuestCall, HasLoop, History, Idle, inl, inr}
+use Rattle.world.proofs.Words.{is_after, is_failed, is_some, IsCancelledInLog, IsOpening, length, List, LogEntry, Loop, map, MAX_JOBS, next_order_of, None}
+use Rattle.world.proofs.Words.{opening_loop, opening_world, Option, PostsOrder, refl, set_here, Setting, slice_get, Some, Started, StartsJob, State, Step}
+use Rattle.world.proofs.Words.{StepDid, steps_join, StepsLoop, subst, sum_by_push, sym, Taken, true, UnlessFailed, Worker, WorkerTakesJob, WorkOrder, World}
+use Rattle.world.proofs.Words.{WorldRun, WorldStep, ℕ, [], ◌++◌, ◌==◌, ◌↔◌, ◌∙◌, ◌∷◌, ◌≡◌, ◌≤◌}
 use Rattle.events.specs.declared.did.StepDid.TheVariants as did
 use Rattle.events.specs.declared.phase.EntryKind.TheVariants as kind
-use Rattle.phases.specs.Guests.{GuestCall}
-use Rattle.phases.specs.History.{Event, EventStep, History, IsOpening}
-use Rattle.phases.specs.Laws.{AreDue}
 use Rattle.phases.specs.Laws.{IsAfterOnce as LoopOnce, IsAfterOwn as LoopOwn, IsAfterLast as LoopLast, WasCancelled as LoopCancelled}
-use Rattle.phases.specs.Outside.{is_failed, next_order_of}
-use Rattle.phases.specs.Requests.{Completion}
-use Rattle.phases.specs.State.{Setting, State, Loop, Core}
-use Rattle.reduction.proofs.StepByStep.{steps_join}
-use Rattle.desk.specs.Desk.{Desk, desk_calls}
-use Rattle.world_log.specs.declared.step.Step.{Step}
 use Rattle.world_log.specs.declared.step.Step.TheVariants as step
-use Rattle.world_log.specs.declared.entry.LogEntry.{LogEntry}
-use Rattle.world.specs.World.{World, Worker, Idle, Taken, Started, Answer, UnlessFailed, PostsOrder, WorkerTakesJob, StartsJob, FinishesJob, CollectsFrom, StepsLoop}
-use Rattle.world.specs.World.{WorldStep, WorldRun, HasLoop, opening_world, opening_loop, entry_told, core}
 use Rattle.world.proofs.GuestsOfRuns.{step_calls, guest_calls, kept_in_run}
 use Rattle.world.proofs.Sets.{made_of}
-use Rattle.world.specs.Histories.{AreTold, HasHistory}
-use Rattle.world.specs.Laws.{is_after, IsCancelledInLog, IsOwnInRun}
+use Rattle.world.specs.Histories.{HasHistory}
+use Rattle.world.specs.Laws.{IsOwnInRun}
 use Rattle.world.proofs.EndsAreLogged.{finished_after, given_end}
 use Rattle.world.proofs.Runs.{Keeps, Told, AllEnds, step_next, run_keeps}
 use Rattle.world.proofs.LogsTellHistories.{step_callback, tells_callback}

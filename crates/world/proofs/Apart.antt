@@ -1,35 +1,20 @@
 -- A job is never begun of whose request a cancel was answered 0, and never cancelled so once it was begun.
-use Rattle.std.proofs.Common.{◌≡◌, ◌≢◌, ℕ, zero, suc, ◌≤◌, ◌==◌, Bool, true, false, cond, ◌&&◌, inl, inr, ◌⊎◌, List, [], ◌∷◌, ◌++◌, length}
-use Rattle.std.proofs.Common.{replicate, Option, is_some, Some, None, refl, sym, ap, subst, ◌∙◌, arith, append-nil, MatchBool}
-use Rattle.std.specs.Prelude.{pos, slice_get, slice_set}
-use Rattle.std.specs.Int.{w32, cast_signed}
-use Rattle.std.specs.List.{count_by}
-use Rattle.std.proofs.lemmas.Bool.{and_parts, cases_eq, eqb-true, eq-eqb, ne_eqb}
-use Rattle.std.proofs.lemmas.List.Elements.{Contains-push_cases}
-use Rattle.std.proofs.lemmas.List.Sums.{sum_by_push}
-use Rattle.limits.specs.declared.TheConstants.{MAX_JOBS}
-use Rattle.tallies.proofs.Requests.{either}
+use Rattle.world.proofs.Words.{CollectsFrom, Contains-push_cases, is_open_stage, IsCancelledInLog, IsKeptInSteps, next_order_of, with_worker_at, WorkerTakesJob}
+use Rattle.world.proofs.Words.{after_clock, and_parts, AreInPlace, cast_signed, desk_calls, FinishesJob, opening_loop, opening_world, sum_by_push, UnlessFailed}
+use Rattle.world.proofs.Words.{ap, DeskStarts, entry_told, GuestCall, HandedOut, is_failed, PostsOrder, replicate, set_apart, slice_get, step_keeps, with_stage}
+use Rattle.world.proofs.Words.{Answered, cases_eq, count_by, eqb-true, in_state, LogEntry, slice_set, StartsJob, StepsLoop, with_loop, WorkOrder, WorldStep, []}
+use Rattle.world.proofs.Words.{Answer, either, eq-eqb, HasLoop, inl, is_some, job_of, length, MAX_JOBS, Requests, set_here, Setting, Started, StepDid, WorldRun}
+use Rattle.world.proofs.Words.{arith, Bool, cond, Core, core, Desk, false, Idle, List, Loop, ne_eqb, None, Only, Option, State, subst, Taken, Worker, World, ℕ}
+use Rattle.world.proofs.Words.{inr, pos, refl, Some, Step, suc, sym, true, w32, zero, ◌&&◌, ◌++◌, ◌==◌, ◌∙◌, ◌∷◌, ◌≡◌, ◌≢◌, ◌≤◌, ◌⊎◌}
+use Rattle.std.proofs.Common.{append-nil, MatchBool}
 use Rattle.order.specs.Uv.Bytes.{taken_out}
-use Rattle.order.specs.Work.{WorkOrder}
-use Rattle.tallies.proofs.Places.{set_here, set_apart}
-use Rattle.events.specs.declared.did.StepDid.{StepDid}
 use Rattle.events.specs.declared.did.StepDid.TheVariants as did
-use Rattle.phases.specs.Guests.{GuestCall}
 use Rattle.phases.specs.Host.{next_work}
-use Rattle.phases.specs.Laws.{IsCancel}
-use Rattle.phases.specs.Laws.{IsHandedOnce as LoopHandedOnce, IsHandedOwn as LoopHandedOwn}
-use Rattle.phases.specs.Outside.{is_failed, next_order_of, after_clock}
-use Rattle.phases.specs.Requests.{HandedOut, Answered, Requests, with_stage, is_open_stage}
-use Rattle.phases.specs.State.{Setting, State, Loop, Core}
-use Rattle.phases.specs.Step.{in_state}
+use Rattle.phases.specs.Laws.{IsCancel, IsHandedOnce as LoopHandedOnce, IsHandedOwn as LoopHandedOwn}
 use Rattle.phases.proofs.CancelFates.{CancelMoves, wins, leaves, moves_in}
 use Rattle.phases.proofs.OrdersHandedOnce.{IsLowest, handed_is}
 use Rattle.phases.proofs.CallMoves.{CallMoves, leaves_all, opens, cancels_won}
-use Rattle.phases.proofs.StepsByCalls.{IsKeptInSteps, step_keeps}
-use Rattle.desk.specs.Desk.{Desk, desk_calls, DeskStarts}
-use Rattle.world_log.specs.declared.step.Step.{Step}
 use Rattle.world_log.specs.declared.step.Step.TheVariants as step
-use Rattle.world_log.specs.declared.entry.LogEntry.{LogEntry}
 use Rattle.world_log.specs.declared.entry.LogEntry.TheVariants as line
 use Rattle.world_log.specs.declared.outcome.PostOutcome.TheVariants as post
 use Rattle.world_log.specs.declared.outcome.StartOutcome.TheVariants as start
@@ -37,9 +22,7 @@ use Rattle.world_log.specs.declared.outcome.FinishOutcome.TheVariants as finish
 use Rattle.world_log.specs.declared.outcome.CollectOutcome.TheVariants as collect
 use Rattle.world.proofs.GuestsOfRuns.{step_calls, guest_calls, kept_in_run}
 use Rattle.world.proofs.Sets.{made_of}
-use Rattle.world.specs.Laws.{is_of_job, is_begun, is_finished, IsCancelledInLog, AreInPlace}
-use Rattle.world.specs.World.{World, Worker, Idle, Taken, Started, Answer, Only, UnlessFailed, PostsOrder, WorkerTakesJob, StartsJob, FinishesJob, CollectsFrom}
-use Rattle.world.specs.World.{StepsLoop, WorldStep, WorldRun, HasLoop, opening_world, opening_loop, with_loop, with_worker_at, job_of, entry_told, core}
+use Rattle.world.specs.Laws.{is_of_job, is_begun, is_finished}
 use Rattle.world.proofs.AfterOnce.{some_of}
 use Rattle.world.proofs.EndsAreLogged.{set_at}
 use Rattle.world.proofs.OneWay.{IsCounted, own_orders, step_counted, opening_counted, one_way_after}

@@ -1,21 +1,13 @@
 -- How the code's collecting of replies reads as a world's.
-use Rattle.std.proofs.Common.{◌≡◌, ℕ, ◌<◌, true, false, List, [], ◌∷◌, length, map, get_or, Some, refl, sym, ap, ◌∙◌, arith}
-use Rattle.std.specs.Prelude.{slice_get, slice_set}
-use Rattle.std.proofs.lemmas.Option.{slice_get-get_or}
-use Rattle.order.specs.Work.{WorkOrder}
-use Rattle.order.specs.declared.reply.Reply.{Reply}
-use Rattle.tallies.proofs.Places.{set_same, map_get}
+use Rattle.world.proofs.Words.{Answer, answer_of, ap, arith, Core, Desk, false, get_or, is_failed, length, List, Loop, map, map_get, refl, Reply, set_same}
+use Rattle.world.proofs.Words.{slice_get, slice_get-get_or, slice_set, Some, sym, true, with_loop, Worker, WorkOrder, World, ℕ, [], ◌<◌, ◌∙◌, ◌∷◌, ◌≡◌}
 use Rattle.phases.specs.declared.loop_core.Accepted.{Accepted}
 use Rattle.phases.specs.declared.loop_core.Accepted.TheVariants as accept
 use Rattle.phases.specs.Accepting.{Accepts}
-use Rattle.phases.specs.State.{Loop, Core}
-use Rattle.phases.specs.Outside.{is_failed}
-use Rattle.desk.specs.Desk.{Desk}
 use Rattle.world_log.specs.declared.entry.LogEntry.TheVariants as line
 use Rattle.world_log.specs.declared.outcome.CollectOutcome.{CollectOutcome}
 use Rattle.world_log.specs.declared.outcome.CollectOutcome.TheVariants as collect
-use Rattle.world.specs.Making.{answer_of}
-use Rattle.world.specs.World.{World, Worker, Answer, CollectsReplies, with_loop, with_replies}
+use Rattle.world.specs.World.{CollectsReplies, with_replies}
 use Rattle.world.proofs.StepsAgree.{world_of, here, untouched, moved, failing, going_on}
 
 -- what stands at a place, as it reads

@@ -1,36 +1,20 @@
 -- Whatever a loop has as the end of a job stands in the log, in the line that tells that the job was finished.
-use Rattle.std.proofs.Common.{◌≡◌, ℕ, zero, suc, ◌==◌, Bool, true, false, cond, not, inl, inr, List, [], ◌∷◌, ◌++◌, map, length, find, Option, Some, None, refl}
-use Rattle.std.proofs.Common.{sym, ap, subst, ◌∙◌}
-use Rattle.std.specs.Prelude.{slice_get, slice_set}
-use Rattle.std.specs.List.{Contains, filter}
-use Rattle.std.proofs.lemmas.Bool.{eqb-true}
-use Rattle.std.proofs.lemmas.List.Elements.{Contains-append_left, Contains-push}
-use Rattle.limits.specs.declared.TheConstants.{MAX_JOBS}
-use Rattle.order.specs.Work.{WorkOrder, WorkEnd, Done}
-use Rattle.tallies.proofs.Requests.{either}
-use Rattle.phases.specs.declared.entry.Status.{Status}
-use Rattle.phases.specs.declared.entry.Status.TheVariants.{Running, Over, Failed}
-use Rattle.phases.specs.Guests.{GuestCall}
-use Rattle.phases.specs.Laws.{AreDue}
-use Rattle.phases.specs.Outside.{is_failed, next_order_of, next_in, handing, after_clock}
-use Rattle.phases.specs.Requests.{Stage, Open, HandedOut, Answered, Cancelled, Request, Requests, Completion, cancellation, has_number, request_of, in_stage, lowest_open, completion_of}
-use Rattle.phases.specs.Requests.{end_completion}
-use Rattle.phases.specs.State.{Setting, State, Loop, Core}
-use Rattle.phases.specs.Step.{in_state}
-use Rattle.phases.proofs.CancelFates.{CancelFate, cancelled, stayed, fate_in}
-use Rattle.phases.proofs.StepsByCalls.{CallFate, changes_nothing, opens_one, cancels_one, IsKeptInSteps, call_forgets, step_keeps}
-use Rattle.desk.specs.Desk.{Desk, desk_calls}
-use Rattle.world_log.specs.declared.step.Step.{Step}
+use Rattle.world.proofs.Words.{ap, CollectsFrom, Contains-append_left, Contains-push, IsKeptInSteps, next_order_of, opening_loop, opening_world, WorkerTakesJob}
+use Rattle.world.proofs.Words.{after_clock, Bool, CancelFate, cancelled, Completion, desk_calls, FinishesJob, lowest_open, PostsOrder, step_keeps, UnlessFailed}
+use Rattle.world.proofs.Words.{Answered, Contains, eqb-true, GuestCall, HandedOut, is_failed, slice_get, slice_set, StartsJob, StepsLoop, WorkOrder, WorldStep}
+use Rattle.world.proofs.Words.{Answer, AreDue, fate_in, handing, in_state, LogEntry, MAX_JOBS, next_in, Request, Requests, Running, Setting, Started, WorldRun}
+use Rattle.world.proofs.Words.{cond, Core, core, Desk, either, Failed, false, filter, find, length, Option, State, Status, stayed, subst, Taken, Worker, World}
+use Rattle.world.proofs.Words.{Idle, inl, inr, List, Loop, map, None, not, Only, Over, refl, Some, Step, suc, sym, true, zero, ℕ, [], ◌++◌, ◌==◌, ◌∙◌, ◌∷◌, ◌≡◌}
+use Rattle.order.specs.Work.{WorkEnd, Done}
+use Rattle.phases.specs.Requests.{Stage, Open, Cancelled, cancellation, has_number, request_of, in_stage, completion_of, end_completion}
+use Rattle.phases.proofs.StepsByCalls.{CallFate, changes_nothing, opens_one, cancels_one, call_forgets}
 use Rattle.world_log.specs.declared.step.Step.TheVariants as step
-use Rattle.world_log.specs.declared.entry.LogEntry.{LogEntry}
 use Rattle.world_log.specs.declared.entry.LogEntry.TheVariants as line
 use Rattle.world_log.specs.declared.outcome.PostOutcome.TheVariants as post
 use Rattle.world_log.specs.declared.outcome.StartOutcome.TheVariants as start
 use Rattle.world_log.specs.declared.outcome.FinishOutcome.TheVariants as finish
 use Rattle.world_log.specs.declared.outcome.CollectOutcome.TheVariants as collect
 use Rattle.world.specs.Laws.{WasFinished}
-use Rattle.world.specs.World.{World, Worker, Idle, Taken, Started, Answer, Only, UnlessFailed, PostsOrder, WorkerTakesJob, StartsJob, FinishesJob, CollectsFrom}
-use Rattle.world.specs.World.{StepsLoop, WorldStep, WorldRun, opening_world, opening_loop, core}
 use Rattle.world.proofs.GuestsOfRuns.{kept_in_run}
 use Rattle.world.proofs.Sets.{made_of}
 

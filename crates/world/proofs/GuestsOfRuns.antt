@@ -1,10 +1,7 @@
 -- The calls of a loop's guest, read off a run.
-use Rattle.std.proofs.Common.{◌≡◌, ℕ, ◌==◌, refl, ap, ◌∙◌, subst, List, [], ◌∷◌, ◌++◌, append_assoc, append-nil, if◌then◌else◌}
-use Rattle.phases.specs.Guests.{GuestCall}
-use Rattle.world_log.specs.declared.step.Step.{Step}
+use Rattle.world.proofs.Words.{ap, GuestCall, List, LogEntry, refl, Step, subst, World, WorldRun, WorldStep, ℕ, [], ◌++◌, ◌==◌, ◌∙◌, ◌∷◌, ◌≡◌}
+use Rattle.std.proofs.Common.{append_assoc, append-nil, if◌then◌else◌}
 use Rattle.world_log.specs.declared.step.Step.TheVariants as step
-use Rattle.world_log.specs.declared.entry.LogEntry.{LogEntry}
-use Rattle.world.specs.World.{World, WorldStep, WorldRun}
 use Rattle.world.specs.Guests.{StepCalls, RunCalls, EachRunCalls}
 
 -- the calls of one loop's guest in a step, which is the loop's own

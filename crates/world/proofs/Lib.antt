@@ -1,3 +1,4 @@
+pub mod Words
 pub mod AfterOnce
 pub mod GuestsOfRuns
 pub mod Apart

@@ -1,25 +1,12 @@
 -- What is the same in a log and in the history that it tells.
-use Rattle.std.proofs.Common.{◌≡◌, ◌↔◌, ℕ, ◌+◌, ◌==◌, Bool, true, false, cond, ◌&&◌, inl, inr, List, [], ◌∷◌, ◌++◌, Some, None, refl, sym, ap, subst, ◌∙◌}
-use Rattle.std.specs.Prelude.{pos}
-use Rattle.std.specs.Int.{w32, cast_signed}
-use Rattle.std.specs.List.{Contains, count_by}
-use Rattle.std.proofs.lemmas.Bool.{eq-eqb}
-use Rattle.std.proofs.lemmas.List.Elements.{Contains-append_left, Contains-push, Contains-push_cases}
-use Rattle.std.proofs.lemmas.List.Sums.{sum_by_push}
-use Rattle.events.specs.declared.did.StepDid.{StepDid}
+use Rattle.world.proofs.Words.{cast_signed, ClockRaised, Contains-append_left, Contains-push, Contains-push_cases, is_after_event, is_of_owner, RequestAnswered}
+use Rattle.world.proofs.Words.{CancelFate, cancelled, Contains, desk_calls, EndOffered, entry_told, EntryTells, EventStep, MovedBeside, OrderAsked, sum_by_push}
+use Rattle.world.proofs.Words.{AreTold, Bool, count_by, eq-eqb, Event, false, fate_in, is_after, LogEntry, Requests, Setting, stayed, StepDid, Stepped, subst}
+use Rattle.world.proofs.Words.{ap, cond, Desk, inl, inr, List, Loop, None, pos, refl, Some, sym, true, w32, ℕ, [], ◌&&◌, ◌++◌, ◌+◌, ◌==◌, ◌↔◌, ◌∙◌, ◌∷◌, ◌≡◌}
 use Rattle.events.specs.declared.did.StepDid.TheVariants as did
 use Rattle.events.specs.declared.phase.EntryKind.TheVariants as kind
-use Rattle.phases.specs.History.{Event, Stepped, OrderAsked, EndOffered, CancelAnswered, RequestAnswered, ClockRaised, MovedBeside, EventStep}
-use Rattle.phases.specs.Laws.{is_after_event}
-use Rattle.phases.specs.Requests.{Requests}
-use Rattle.phases.specs.State.{Setting, Loop}
-use Rattle.phases.proofs.CancelFates.{CancelFate, cancelled, stayed, fate_in}
-use Rattle.desk.specs.Desk.{Desk, desk_calls}
-use Rattle.world_log.specs.declared.entry.LogEntry.{LogEntry}
+use Rattle.phases.specs.History.{CancelAnswered}
 use Rattle.world_log.specs.declared.entry.LogEntry.TheVariants as line
-use Rattle.world.specs.World.{entry_told}
-use Rattle.world.specs.Histories.{is_of_owner, EntryTells, AreTold}
-use Rattle.world.specs.Laws.{is_after}
 
 module _ (j : ℕ) where
   pub told_push : (log : List LogEntry) (events : List Event) (entry : LogEntry) (e : Event) → AreTold j log events → EntryTells j entry e → AreTold j (log ++ entry ∷ []) (events ++ e ∷ [])

@@ -1,38 +1,21 @@
 -- One job's way through the log of a world.
-use Rattle.std.proofs.Common.{◌≡◌, ℕ, zero, suc, ◌+◌, ◌≤◌, ◌==◌, Bool, true, false, cond, ◌&&◌, inl, inr, ◌⊎◌, List, [], ◌∷◌, ◌++◌, length, map, replicate}
-use Rattle.std.proofs.Common.{Option, is_some, Some, None, refl, sym, ap, subst, ◌∙◌, arith}
-use Rattle.std.specs.Prelude.{slice_get, slice_set}
-use Rattle.std.specs.List.{count_by}
-use Rattle.std.proofs.lemmas.Bool.{cases_eq, eq-eqb, ne_eqb}
-use Rattle.std.proofs.lemmas.List.Sums.{sum_by_push}
-use Rattle.limits.specs.declared.TheConstants.{MAX_JOBS}
-use Rattle.order.specs.Work.{WorkOrder}
+use Rattle.world.proofs.Words.{ClockRaised, CollectsFrom, FinishesJob, is_of_owner, next_order_of, opening_world, RequestAnswered, UnlessFailed, WorkerTakesJob}
+use Rattle.world.proofs.Words.{AreInPlace, AreTold, desk_calls, EndOffered, entry_told, EntryTells, GuestCall, MovedBeside, OrderAsked, PostsOrder, sum_by_push}
+use Rattle.world.proofs.Words.{cases_eq, count_by, is_failed, IsOpening, replicate, set_apart, slice_get, slice_set, StartsJob, StepsLoop, WorkOrder, WorldStep}
+use Rattle.world.proofs.Words.{Answer, either, eq-eqb, HasLoop, in_state, is_some, LogEntry, MAX_JOBS, set_here, Setting, Started, StepDid, Stepped, WorldRun}
+use Rattle.world.proofs.Words.{arith, Bool, cond, core, Desk, Event, false, Idle, inl, job_of, length, List, ne_eqb, Option, State, subst, Taken, Worker, World}
+use Rattle.world.proofs.Words.{ap, inr, Loop, map, None, Only, refl, Some, Step, suc, sym, true, zero, ℕ, [], ◌&&◌, ◌++◌, ◌+◌, ◌==◌, ◌∙◌, ◌∷◌, ◌≡◌, ◌≤◌, ◌⊎◌}
 use Rattle.tallies.proofs.Lists.{count_cons}
-use Rattle.tallies.proofs.Places.{set_here, set_apart}
-use Rattle.tallies.proofs.Requests.{either}
-use Rattle.events.specs.declared.did.StepDid.{StepDid}
 use Rattle.events.specs.declared.did.StepDid.TheVariants as did
-use Rattle.phases.specs.Guests.{GuestCall}
-use Rattle.phases.specs.History.{Event, Stepped, OrderAsked, EndOffered, RequestAnswered, ClockRaised, MovedBeside, IsOpening}
-use Rattle.phases.specs.Laws.{hands_out}
-use Rattle.phases.specs.Laws.{IsHandedOnce as LoopHandedOnce, IsHandedOwn as LoopHandedOwn}
-use Rattle.phases.specs.Outside.{is_failed, next_order_of}
-use Rattle.phases.specs.State.{Setting, State, Loop}
-use Rattle.phases.specs.Step.{in_state}
-use Rattle.desk.specs.Desk.{Desk, desk_calls}
-use Rattle.world_log.specs.declared.step.Step.{Step}
+use Rattle.phases.specs.Laws.{hands_out, IsHandedOnce as LoopHandedOnce, IsHandedOwn as LoopHandedOwn}
 use Rattle.world_log.specs.declared.step.Step.TheVariants as step
-use Rattle.world_log.specs.declared.entry.LogEntry.{LogEntry}
 use Rattle.world_log.specs.declared.entry.LogEntry.TheVariants as line
 use Rattle.world_log.specs.declared.outcome.PostOutcome.TheVariants as post
 use Rattle.world_log.specs.declared.outcome.StartOutcome.TheVariants as start
 use Rattle.world_log.specs.declared.outcome.FinishOutcome.TheVariants as finish
 use Rattle.world_log.specs.declared.outcome.CollectOutcome.TheVariants as collect
 use Rattle.world.proofs.GuestsOfRuns.{step_calls, kept_in_run}
-use Rattle.world.specs.Histories.{EntryTells, AreTold, is_of_owner}
-use Rattle.world.specs.Laws.{is_of_job, is_post_of, is_taken, is_begun, is_dropped, is_finished, is_collected, GoesOnce, AreInPlace}
-use Rattle.world.specs.World.{World, Worker, Idle, Taken, Started, Answer, Only, UnlessFailed, PostsOrder, WorkerTakesJob, StartsJob, FinishesJob, CollectsFrom}
-use Rattle.world.specs.World.{StepsLoop, WorldStep, WorldRun, HasLoop, opening_world, job_of, entry_told, core}
+use Rattle.world.specs.Laws.{is_of_job, is_post_of, is_taken, is_begun, is_dropped, is_finished, is_collected, GoesOnce}
 use Rattle.world.proofs.AfterOnce.{Opens, IsThere, opening_keeps, opening_is, some_of}
 use Rattle.world.proofs.Runs.{Keeps, step_next}
 

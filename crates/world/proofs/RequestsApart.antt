@@ -1,16 +1,14 @@
 -- What a loop keeps of one request, so that it is never both cancelled and begun.
-use Rattle.std.proofs.Common.{◌≡◌, ◌≢◌, ℕ, ◌+◌, ◌<◌, ◌≤◌, ◌==◌, Bool, true, false, cond, not, ◌&&◌, inl, inr, ◌⊎◌, List, [], ◌∷◌, ◌++◌, map}
-use Rattle.std.proofs.Common.{find, Option, Some, refl, sym, ap, subst, ◌∙◌, arith}
-use Rattle.std.specs.List.{filter}
-use Rattle.std.proofs.lemmas.Bool.{cases_eq, eqb-true, eq-eqb}
+use Rattle.world.proofs.Words.{ap, arith, Bool, cases_eq, cond, Desk, desk_calls, DeskStarts, eq-eqb, eqb-true, false, filter, find, HandedOut, inl, inr}
+use Rattle.world.proofs.Words.{is_open_stage, List, lowest_open, map, not, Option, refl, Request, Requests, Some, subst, sym, true, with_stage, WorkOrder, ℕ}
+use Rattle.world.proofs.Words.{[], ◌&&◌, ◌++◌, ◌+◌, ◌<◌, ◌==◌, ◌∙◌, ◌∷◌, ◌≡◌, ◌≢◌, ◌≤◌, ◌⊎◌}
 use Rattle.tallies.specs.Requests.{times, is_request, is_pending}
 use Rattle.tallies.proofs.Requests.{same_request, times_grow, times_hit, times_miss}
-use Rattle.order.specs.Work.{WorkOrder}
-use Rattle.phases.specs.Requests.{Stage, Open, HandedOut, Cancelled, Request, Requests, has_number, request_of, in_stage, with_stage, without_request, with_work, is_open_stage, lowest_open}
+use Rattle.phases.specs.Requests.{Stage, Open, Cancelled, has_number, request_of, in_stage, without_request, with_work}
 use Rattle.phases.proofs.CancelFates.{IsBeside, unmoved, tried, sent, took}
 use Rattle.tallies.proofs.Filtered.{find_first, first_passes}
 use Rattle.phases.proofs.OrdersHandedOnce.{UpTo, NoneOpen, up_to_push, none_push, up_to_staged, none_staged, none_after, up_to_filtered, none_filtered, found_up_to, found_open}
-use Rattle.desk.specs.Desk.{Desk, desk_calls, is_open_request, found_started, DeskCancels, DeskSends, DeskStarts, DeskGets}
+use Rattle.desk.specs.Desk.{is_open_request, found_started, DeskCancels, DeskSends, DeskGets}
 
 -- what is one of a list's
 same_is : (s r k : ℕ) → s ≡ k → is_request (s, r) (k, r) ≡ true

@@ -1,42 +1,20 @@
 -- What the runs of a world are to one of its loops.
-use Rattle.std.proofs.Common.{◌≡◌, ◌≢◌, ◌↔◌, ℕ, zero, suc, ◌==◌, Bool, true, false, cond, inl, inr, ◌⊎◌, List, [], ◌∷◌, ◌++◌, length, Option, Some, None, refl}
-use Rattle.std.proofs.Common.{sym, ap, subst, ◌∙◌}
-use Rattle.std.specs.Prelude.{pos, slice_get, slice_set}
-use Rattle.std.specs.Int.{w32, cast_signed}
-use Rattle.std.specs.List.{Contains, count_by}
-use Rattle.std.specs.Option.{is_some}
-use Rattle.std.proofs.lemmas.Bool.{cases_eq, eq-eqb, ne_eqb}
-use Rattle.limits.specs.declared.TheConstants.{MAX_JOBS}
-use Rattle.order.specs.Work.{WorkOrder, IsEndOf}
-use Rattle.tallies.proofs.Places.{set_here, set_apart}
-use Rattle.tallies.proofs.Requests.{either}
-use Rattle.events.specs.declared.did.StepDid.{StepDid}
+use Rattle.world.proofs.Words.{after_clock, Answer, ap, AreTold, Bool, cases_eq, cast_signed, ClockRaised, CollectsFrom, cond, Contains, Core, core, count_by}
+use Rattle.world.proofs.Words.{Desk, desk_calls, either, EndOffered, entry_told, EntryTells, eq-eqb, Event, EventStep, Failed, false, FinishesJob, GuestCall}
+use Rattle.world.proofs.Words.{handing, History, Idle, in_state, inl, inr, is_after, is_after_event, is_failed, is_of_owner, is_some, IsEndOf, length, List}
+use Rattle.world.proofs.Words.{LogEntry, Loop, lowest_open, MAX_JOBS, MovedBeside, ne_eqb, next_in, next_order_of, None, Only, Option, OrderAsked, Over, pos}
+use Rattle.world.proofs.Words.{PostsJob, PostsOrder, refl, Request, Running, set_apart, set_here, Setting, slice_get, slice_set, Some, Started, StartsJob}
+use Rattle.world.proofs.Words.{State, Status, Step, StepDid, Stepped, steps_join, StepsLoop, subst, suc, sym, Taken, true, UnlessFailed, w32, Worker}
+use Rattle.world.proofs.Words.{WorkerTakesJob, WorkOrder, World, WorldRun, WorldStep, zero, ℕ, [], ◌++◌, ◌==◌, ◌↔◌, ◌∙◌, ◌∷◌, ◌≡◌, ◌≢◌, ◌⊎◌}
 use Rattle.events.specs.declared.did.StepDid.TheVariants as did
-use Rattle.phases.specs.declared.entry.Status.{Status}
-use Rattle.phases.specs.declared.entry.Status.TheVariants.{Running, Over, Failed}
-use Rattle.phases.specs.Guests.{GuestCall}
-use Rattle.phases.specs.History.{Event, Stepped, OrderAsked, EndOffered, CancelAnswered, ClockRaised, MovedBeside, EventStep, History, calls_in}
-use Rattle.phases.specs.History.{guest_calls as calls_within}
-use Rattle.phases.specs.Laws.{is_after_event}
-use Rattle.phases.specs.Outside.{is_failed, next_order_of, next_in, handing, after_clock}
-use Rattle.phases.specs.Requests.{Request, lowest_open}
-use Rattle.phases.specs.State.{Setting, State, Loop, Core}
-use Rattle.phases.specs.Step.{in_state}
+use Rattle.phases.specs.History.{CancelAnswered, calls_in, guest_calls as calls_within}
 use Rattle.phases.proofs.Histories.{calls_push}
-use Rattle.reduction.proofs.StepByStep.{steps_join}
-use Rattle.desk.specs.Desk.{Desk, desk_calls}
 use Rattle.desk.specs.Inner.Law.{desk_beside}
-use Rattle.world_log.specs.declared.step.Step.{Step}
 use Rattle.world_log.specs.declared.step.Step.TheVariants as step
-use Rattle.world_log.specs.declared.entry.LogEntry.{LogEntry}
 use Rattle.world_log.specs.declared.entry.LogEntry.TheVariants as line
 use Rattle.world_log.specs.declared.outcome.PostOutcome.TheVariants as post
 use Rattle.world_log.specs.declared.outcome.CollectOutcome.TheVariants as collect
-use Rattle.world.specs.World.{World, Worker, Idle, Taken, Started, Answer, Only, UnlessFailed, StepsLoop, PostsJob, PostsOrder, WorkerTakesJob, StartsJob, FinishesJob}
-use Rattle.world.specs.World.{CollectsFrom, WorldStep, WorldRun, entry_told, core}
 use Rattle.world.proofs.GuestsOfRuns.{step_calls, guest_calls, kept_in_run}
-use Rattle.world.specs.Histories.{is_of_owner, EntryTells, AreTold}
-use Rattle.world.specs.Laws.{is_after}
 use Rattle.world.proofs.LogsTellHistories.{told_push, tells_callback, tells_cancel, contains_push, count_push}
 
 pub set_there : {X : Type 0} (xs : List X) (n k : ℕ) (v : X) → is_some (slice_get (slice_set xs n v) k) ≡ is_some (slice_get xs k)

@@ -1,11 +1,9 @@
 -- Runs, a step at a time.
-use Rattle.std.proofs.Common.{◌≡◌, ℕ, ◌+◌, ◌<◌, ◌≤◌, List, [], ◌∷◌, ◌++◌, length, take, slice_index_or, refl, sym, ap, ◌∙◌, subst, rules}
+use Rattle.world.proofs.Words.{ap, length, List, LogEntry, refl, slice_get-get_or, Step, subst, sym, take, World, WorldRun, WorldStep, ℕ, [], ◌++◌, ◌+◌, ◌<◌}
+use Rattle.world.proofs.Words.{◌∙◌, ◌∷◌, ◌≡◌, ◌≤◌}
+use Rattle.std.proofs.Common.{slice_index_or, rules}
 use Rattle.std.proofs.lemmas.Grind.{take_at_read}
 use Rattle.std.proofs.lemmas.List.{take_all, append_assoc}
-use Rattle.std.proofs.lemmas.Option.{slice_get-get_or}
-use Rattle.world_log.specs.declared.step.Step.{Step}
-use Rattle.world_log.specs.declared.entry.LogEntry.{LogEntry}
-use Rattle.world.specs.World.{World, WorldStep, WorldRun}
 use Rattle.world.specs.declared.fault.WorldFault.{WorldFault}
 use Rattle.world.specs.Making.{MayFault, Stops}
 

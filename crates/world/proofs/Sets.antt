@@ -1,14 +1,9 @@
 -- Lists of a world, and their changes at one place.
-use Rattle.std.proofs.Common.{◌≡◌, ◌≢◌, ℕ, zero, suc, ◌+◌, List, [], ◌∷◌, ◌++◌, map, length, Some, refl, sym, ap, ◌∙◌, subst, arith}
-use Rattle.std.specs.Prelude.{slice_get, slice_set, All}
-use Rattle.std.proofs.lemmas.List.{length-set, length_push}
+use Rattle.world.proofs.Words.{All, ap, arith, Core, Desk, IsJob, length, length-set, List, LoopsAreNumbered, map, MAX_JOBS, Order, refl, slice_get, slice_set}
+use Rattle.world.proofs.Words.{Some, subst, suc, sym, WorldIsKept, zero, ℕ, [], ◌++◌, ◌+◌, ◌∙◌, ◌∷◌, ◌≡◌, ◌≢◌}
+use Rattle.std.proofs.lemmas.List.{length_push}
 use Rattle.std.proofs.lemmas.List.Elements.{All-push}
-use Rattle.limits.specs.declared.TheConstants.{MAX_JOBS}
-use Rattle.order.specs.declared.order.Order.{Order}
-use Rattle.phases.specs.State.{Core}
-use Rattle.desk.specs.Desk.{Desk}
 use Rattle.world.specs.declared.worker.Worker.{Worker}
-use Rattle.world.specs.Making.{LoopsAreNumbered, IsJob, WorldIsKept}
 
 -- what stands in a list that was made of another
 pub made_of : {X Y : Type 0} (f : X → Y) (xs : List X) (n : ℕ) (y : Y) → slice_get (map f xs) n ≡ Some y → (x : X) × (slice_get xs n ≡ Some x) × (f x ≡ y)

@@ -1,25 +1,16 @@
 -- How the steps of the code read as those of a world.
-use Rattle.std.proofs.Common.{◌≡◌, ◌≢◌, ℕ, ◌<◌, Bool, true, false, not, List, [], ◌∷◌, ◌++◌, length, get_or, Option, ℤ, Some, None, refl, sym, ap, ◌∙◌}
-use Rattle.std.specs.Prelude.{slice_get, slice_set}
-use Rattle.std.specs.Int.{w32, cast_signed}
-use Rattle.std.proofs.lemmas.Option.{slice_get-get_or}
-use Rattle.limits.specs.declared.TheConstants.{MAX_ASYNCS, MAX_JOBS}
-use Rattle.order.specs.Work.{WorkOrder}
-use Rattle.tallies.proofs.Places.{set_same}
-use Rattle.events.specs.declared.did.StepDid.{StepDid}
-use Rattle.phases.specs.State.{State, Core}
-use Rattle.phases.specs.Step.{LoopStep, in_state}
-use Rattle.std.proofs.lemmas.Bool.{eq-eqb, ne_eqb}
-use Rattle.phases.specs.declared.entry.Status.{Status}
-use Rattle.phases.specs.declared.entry.Status.TheVariants.{Running, Over, Failed}
-use Rattle.phases.specs.Requests.{Request, Requests, lowest_open}
+use Rattle.world.proofs.Words.{after_clock, cast_signed, desk_calls, desk_others, entry_told, false, lowest_open, next_order_of, slice_get-get_or, UnlessFailed}
+use Rattle.world.proofs.Words.{in_state, is_failed, LogEntry, MAX_JOBS, PostsJob, PostsOrder, Requests, slice_get, slice_set, StepsLoop, with_loop, WorkOrder}
+use Rattle.world.proofs.Words.{Answer, eq-eqb, Failed, get_or, handing, length, ne_eqb, next_in, Option, Request, Running, set_same, Status, StepDid, Worker, ℕ}
+use Rattle.world.proofs.Words.{ap, Bool, Core, core, Desk, List, None, not, Over, refl, Some, State, sym, true, w32, World, [], ◌++◌, ◌<◌, ◌∙◌, ◌∷◌, ◌≡◌, ◌≢◌}
+use Rattle.std.proofs.Common.{ℤ}
+use Rattle.limits.specs.declared.TheConstants.{MAX_ASYNCS}
+use Rattle.phases.specs.Step.{LoopStep}
 use Rattle.phases.specs.Host.{with_requests}
-use Rattle.phases.specs.Outside.{is_failed, next_order_of, next_in, handing, after_clock, CancelsLoop, SendsBeside}
-use Rattle.desk.specs.Desk.{Desk, desk_calls, desk_others}
-use Rattle.world_log.specs.declared.entry.LogEntry.{LogEntry}
+use Rattle.phases.specs.Outside.{CancelsLoop, SendsBeside}
 use Rattle.world_log.specs.declared.entry.LogEntry.TheVariants as line
 use Rattle.world_log.specs.declared.outcome.PostOutcome.TheVariants as post
-use Rattle.world.specs.World.{World, Worker, Answer, UnlessFailed, StepsLoop, PostsJob, PostsOrder, SendsTo, CancelsRequest, ClocksAt, with_loop, entry_told, core}
+use Rattle.world.specs.World.{SendsTo, CancelsRequest, ClocksAt}
 
 pub read : {X : Type 0} (xs : List X) (n : ℕ) (x : X) → n < length xs → ((d : X) → x ≡ get_or xs n d) → slice_get xs n ≡ Some x
 read xs n x within is = slice_get-get_or xs n x within ∙ ap Some (sym (is x))

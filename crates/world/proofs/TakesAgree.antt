@@ -1,20 +1,10 @@
 -- How a take of the code reads as that of a world.
-use Rattle.std.proofs.Common.{◌≡◌, ◌≢◌, ℕ, suc, inl, inr, ◌⊎◌, List, [], ◌∷◌, length, map, Some, None, refl, sym, ap, ◌∙◌, subst, arith}
-use Rattle.std.specs.Prelude.{slice_get, slice_set, All}
-use Rattle.std.proofs.lemmas.List.Elements.{All-set}
-use Rattle.std.proofs.lemmas.List.{map-set}
-use Rattle.order.specs.Work.{WorkOrder}
-use Rattle.order.specs.Orders.{order_of}
-use Rattle.order.specs.declared.order.Order.{Order}
-use Rattle.tallies.proofs.Places.{set_same, map_get}
-use Rattle.phases.specs.State.{Core}
-use Rattle.desk.specs.Desk.{Desk}
+use Rattle.world.proofs.Words.{All, All-set, Answer, ap, arith, Core, Desk, FitsLoops, Idle, inl, inr, IsJob, job_of, JobId, length, List, map, map-set}
+use Rattle.world.proofs.Words.{map_get, None, Order, order_of, refl, set_same, slice_get, slice_set, Some, subst, suc, sym, Taken, with_worker_at, WithWorker}
+use Rattle.world.proofs.Words.{Worker, worker_of, WorkerTakesJob, WorkOrder, World, WorldIsKept, ℕ, [], ◌∙◌, ◌∷◌, ◌≡◌, ◌≢◌, ◌⊎◌}
 use Rattle.world_log.specs.declared.entry.LogEntry.TheVariants as line
-use Rattle.world_log.specs.declared.outcome.JobId.{JobId}
-use Rattle.world.specs.World.{World, Worker, Answer, Idle, Taken, WithWorker, WorkerTakesJob, job_of, with_worker_at}
 use Rattle.world.specs.declared.worker.Worker.{Worker as CodeWorker}
 use Rattle.world.specs.declared.worker.Worker.TheVariants as code
-use Rattle.world.specs.Making.{worker_of, IsJob, FitsLoops, WorldIsKept}
 use Rattle.world.proofs.StepsAgree.{world_of}
 
 taken_none : (w : World) (n : ℕ) (state : Worker) (w' : World) → slice_get w.workers n ≡ Some state → w' ≡ w → (state ≢ Idle) ⊎ (w.jobs ≡ [])

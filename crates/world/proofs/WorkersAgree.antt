@@ -1,26 +1,18 @@
 -- A worker's starts and finishes, as those of a world.
-use Rattle.std.proofs.Common.{◌≡◌, ℕ, ◌<◌, Bool, true, false, List, [], ◌∷◌, ◌++◌, length, map, get_or, Result, Ok, Err, Some, refl, sym, ap, ◌∙◌, subst}
-use Rattle.std.specs.Prelude.{slice_get, slice_set, All, OnErr}
-use Rattle.std.proofs.lemmas.Option.{slice_get-get_or}
-use Rattle.std.proofs.lemmas.List.{length-set, map-set}
-use Rattle.std.proofs.lemmas.List.Elements.{All-set}
-use Rattle.order.specs.declared.order.Order.{Order}
-use Rattle.order.specs.declared.reply.Reply.{Reply}
-use Rattle.order.specs.Work.{WorkOrder, IsEndOf}
-use Rattle.order.specs.Orders.{order_of, end_of}
-use Rattle.tallies.proofs.Places.{set_same, map_get}
-use Rattle.phases.specs.State.{Loop, Core}
+use Rattle.world.proofs.Words.{All, All-set, Answer, answer_of, ap, Bool, Core, core, Desk, desk_others, Err, false, FinishesJob, FitsLoops, get_or, Idle}
+use Rattle.world.proofs.Words.{IsEndOf, IsJob, job_of, JobId, length, length-set, List, Loop, map, map-set, map_get, Ok, Order, order_of, refl, Reply, Result}
+use Rattle.world.proofs.Words.{set_same, slice_get, slice_get-get_or, slice_set, Some, Started, StartsJob, subst, sym, Taken, true, with_loop, with_worker_at}
+use Rattle.world.proofs.Words.{WithWorker, Worker, worker_of, WorkOrder, World, WorldIsKept, ℕ, [], ◌++◌, ◌<◌, ◌∙◌, ◌∷◌, ◌≡◌}
+use Rattle.std.specs.Prelude.{OnErr}
+use Rattle.order.specs.Orders.{end_of}
 use Rattle.phases.specs.Outside.{StartsBeside}
-use Rattle.desk.specs.Desk.{Desk, desk_others}
 use Rattle.world_log.specs.declared.entry.LogEntry.TheVariants as line
-use Rattle.world_log.specs.declared.outcome.JobId.{JobId}
 use Rattle.world_log.specs.declared.outcome.JobEnd.{JobEnd}
 use Rattle.world_log.specs.declared.outcome.StartOutcome.TheVariants as start
 use Rattle.world_log.specs.declared.outcome.FinishOutcome.TheVariants as finish
-use Rattle.world.specs.World.{World, Worker, Answer, Idle, Taken, Started, WithWorker, StartsJob, FinishesJob, TellsEnd, job_of, with_worker_at, with_loop, with_replies, core}
+use Rattle.world.specs.World.{TellsEnd, with_replies}
 use Rattle.world.specs.declared.worker.Worker.{Worker as CodeWorker}
 use Rattle.world.specs.declared.worker.Worker.TheVariants as worker
-use Rattle.world.specs.Making.{worker_of, answer_of, IsJob, FitsLoops, WorldIsKept}
 use Rattle.phases.proofs.RequestsRise.{at_all}
 use Rattle.world.proofs.StepsAgree.{world_of, moved}
 

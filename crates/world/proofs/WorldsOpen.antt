@@ -1,23 +1,20 @@
 -- A world as it opens.
-use Rattle.std.proofs.Common.{◌≡◌, ◌≤◌, ℕ, zero, suc, ◌+◌, List, [], ◌∷◌, ◌++◌, All, length, map, take, replicate, IfOk, Result, Ok, Err, Some, refl, sym, ap, ◌∙◌, subst, arith}
-use Rattle.std.specs.Prelude.{slice_get}
+use Rattle.world.proofs.Words.{All, Answer, ap, arith, Core, core, Desk, Err, FitsLoops, Idle, IsJob, length, length-map, List, Loop, LoopsAreNumbered, map}
+use Rattle.world.proofs.Words.{map-append, MAX_JOBS, Ok, opening_loop, opening_world, Order, order_of, refl, replicate, Result, Setting, setting_from}
+use Rattle.world.proofs.Words.{settings_from, slice_get, Some, State, subst, suc, sym, take, worker_of, WorldIsKept, zero, ℕ, [], ◌++◌, ◌+◌, ◌∙◌, ◌∷◌, ◌≡◌, ◌≤◌}
+use Rattle.std.proofs.Common.{IfOk}
 use Rattle.std.proofs.lemmas.List.Elements.{All-nil, All-replicate}
-use Rattle.std.proofs.lemmas.List.{map-append, length-map, length-replicate}
-use Rattle.limits.specs.declared.TheConstants.{MAX_JOBS}
+use Rattle.std.proofs.lemmas.List.{length-replicate}
 use Rattle.syntax.specs.Loaded.{Loaded}
 use Rattle.instance.specs.Store.{Store}
 use Rattle.instance.specs.Fresh.{IsFresh}
-use Rattle.order.specs.declared.order.Order.{Order}
-use Rattle.order.specs.Orders.{order_of}
 use Rattle.phases.specs.PhaseList.{begin_list}
 use Rattle.phases.specs.Roster.{opening_roster}
-use Rattle.phases.specs.State.{Setting, Loop, State, opening, Core}
-use Rattle.desk.specs.Desk.{Desk, new_desk}
+use Rattle.phases.specs.State.{opening}
+use Rattle.desk.specs.Desk.{new_desk}
 use Rattle.world.specs.declared.config.LoopConfig.{LoopConfig}
 use Rattle.world.specs.declared.worker.Worker.{Worker as CodeWorker}
 use Rattle.world.specs.declared.worker.Worker.TheVariants as worker
-use Rattle.world.specs.Making.{setting_from, settings_from, worker_of, LoopsAreNumbered, FitsLoops, IsJob, WorldIsKept}
-use Rattle.world.specs.World.{Idle, Answer, opening_loop, opening_world, core}
 use Rattle.world.proofs.StepsAgree.{world_of}
 
 abbrev made : State → Store → Desk → Loop Desk

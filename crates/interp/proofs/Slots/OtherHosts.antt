@@ -1,21 +1,7 @@
 -- A call that is under way: how it has come to its host, and the same over another host.
-use Rattle.std.proofs.Common.{ℕ, ◌-◌, List, take, Option, Some, None, refl}
-use Rattle.syntax.specs.declared.types.ValType.{ValType}
-use Rattle.syntax.specs.declared.types.Value.{Value}
-use Rattle.syntax.specs.declared.contents.Contents.{Contents}
-use Rattle.validate.specs.Targets.{AreTables}
-use Rattle.validate.specs.Valid.{ValidModule}
-use Rattle.validate.specs.declared.side_table.SideTable.{SideTable}
-use Rattle.instance.specs.Store.{Store}
-use Rattle.instance.specs.declared.stack.Caller.{Caller}
-use Rattle.instance.specs.declared.stack.Last.{Last}
-use Rattle.reduction.specs.Run.{HostCall}
+use Rattle.interp.proofs.Words.{AreTables, Caller, ComesFromAny, Contents, HostCall, IsUnderWay, Last, List, MachineState, None, Option, Paused, Program}
+use Rattle.interp.proofs.Words.{program_of, refl, RunIsPaused, RunStandsAt, SideTable, Some, standing, Store, take, ValidModule, ValType, Value, ℕ, ◌-◌}
 use Rattle.reduction.specs.Hosting.{Lawful}
-use Rattle.engine.specs.Programs.{Program, program_of}
-use Rattle.engine.specs.Stepping.{MachineState, standing}
-use Rattle.interp.specs.declared.paused.Paused.{Paused}
-use Rattle.interp.specs.Slots.Hosted.{IsUnderWay, ComesFromAny}
-use Rattle.interp.specs.Slices.{RunIsPaused, RunStandsAt}
 use Rattle.interp.proofs.Slots.CallsBegin.{under_way}
 
 -- it has come by a lawful trace

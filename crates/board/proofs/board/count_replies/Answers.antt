@@ -1,10 +1,5 @@
-use Rattle.std.proofs.Common.{◌≡◌, ◌≢◌, ⊎_elim, ℕ, List, length, set, map, Some, slice_get, refl, sym, ap, ◌∙◌, arith}
-use Rattle.std.proofs.lemmas.List.{length-map}
-use Rattle.std.proofs.lemmas.Option.{slice_get_read, same_Some}
-use Rattle.std.proofs.lemmas.Bool.{cases_eq}
-use Rattle.order.specs.declared.reply.Reply.{Reply}
-use Rattle.tallies.proofs.Places.{set_same}
-use Rattle.board.specs.Views.{LineView, MakerView}
+use Rattle.board.proofs.Words.{ap, arith, cases_eq, length, length-map, LineView, List, MakerView, map, refl, Reply, same_Some, set, set_same, slice_get}
+use Rattle.board.proofs.Words.{slice_get_read, Some, sym, ℕ, ⊎_elim, ◌∙◌, ◌≡◌, ◌≢◌}
 use Rattle.board.proofs.Makers.{same_part}
 use Rattle.board.proofs.Taking.{below}
 use Rattle.board.proofs.board.count_replies.Goals as goal

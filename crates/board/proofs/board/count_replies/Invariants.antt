@@ -1,6 +1,4 @@
-use Rattle.std.proofs.Common.{◌≡◌, ◌<◌, ◌≤◌, ℕ, length, Some, slice_get}
-use Rattle.order.specs.declared.reply.Reply.{Reply}
-use Rattle.board.specs.Views.{MakerView, IsWhole}
+use Rattle.board.proofs.Words.{IsWhole, length, MakerView, Reply, slice_get, Some, ℕ, ◌<◌, ◌≡◌, ◌≤◌}
 use Rattle.board.proofs.board.count_replies.Given as goal
 
 abbrev pub invariant-loop-i : goal.invariant-loop-i

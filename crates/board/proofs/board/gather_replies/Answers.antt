@@ -1,8 +1,5 @@
-use Rattle.std.proofs.Common.{◌≡◌, ◌<◌, ℕ, List, length, map, Some, slice_get, refl, sym, ap, ◌∙◌, arith}
-use Rattle.std.proofs.lemmas.List.{length-map}
-use Rattle.std.proofs.lemmas.Option.{slice_get_read}
-use Rattle.order.specs.declared.reply.Reply.{Reply}
-use Rattle.board.specs.Views.{LineView, HandView, MakerView}
+use Rattle.board.proofs.Words.{ap, arith, HandView, length, length-map, LineView, List, MakerView, map, refl, Reply, slice_get, slice_get_read, Some, sym, ℕ}
+use Rattle.board.proofs.Words.{◌<◌, ◌∙◌, ◌≡◌}
 use Rattle.board.proofs.Makers.{same_part}
 use Rattle.board.proofs.Taking.{below, next_hand, one_less, map_set}
 use Rattle.board.proofs.board.gather_replies.Goals as goal

@@ -1,9 +1,5 @@
-use Rattle.std.proofs.Common.{◌≡◌, ◌<◌, ℕ, List, [], ◌∷◌, ◌++◌, length, set, get_or, take, map, Some, slice_get, refl, sym, ap, ◌∙◌, add-one, arith}
-use Rattle.std.proofs.lemmas.List.{length-map, map-append}
-use Rattle.std.proofs.lemmas.List.Elements.{All-push}
-use Rattle.std.proofs.lemmas.Option.{slice_get_read}
-use Rattle.order.specs.declared.reply.Reply.{Reply}
-use Rattle.board.specs.Views.{LineView, HandView, MakerView, IsIdle, one_later}
+use Rattle.board.proofs.Words.{add-one, All-push, ap, arith, get_or, HandView, IsIdle, length, length-map, LineView, List, MakerView, map, map-append}
+use Rattle.board.proofs.Words.{one_later, refl, Reply, set, slice_get, slice_get_read, Some, sym, take, ℕ, [], ◌++◌, ◌<◌, ◌∙◌, ◌∷◌, ◌≡◌}
 use Rattle.board.proofs.Makers.{advanced, advanced_all, advanced_get, advanced_length, advanced_next, taken_next, same_part}
 use Rattle.board.proofs.board.hands_of.Goals as goal
 

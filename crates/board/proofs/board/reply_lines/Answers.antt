@@ -1,7 +1,4 @@
-use Rattle.std.proofs.Common.{◌≡◌, [], ◌∷◌, ◌++◌, length-append, sym, ap, ◌∙◌, arith}
-use Rattle.std.proofs.lemmas.List.Elements.{All-push}
-use Rattle.limits.specs.declared.TheConstants.{MAX_REPLIES}
-use Rattle.board.specs.Views.{LineView, makers_at}
+use Rattle.board.proofs.Words.{All-push, ap, arith, length-append, LineView, makers_at, MAX_REPLIES, sym, [], ◌++◌, ◌∙◌, ◌∷◌, ◌≡◌}
 use Rattle.board.proofs.Makers.{one_line_more}
 use Rattle.board.proofs.board.reply_lines.Goals as goal
 

@@ -1,12 +1,9 @@
-use Rattle.std.proofs.Common.{◌≡◌, ℕ, zero, suc, ◌<◌, ◌≤◌, List, [], ◌∷◌, ◌++◌, length, nat_lt, true, ◌&&◌, ◌==◌, sym, ap, ◌∙◌, subst, arith}
-use Rattle.std.proofs.lemmas.Bool.Decides.{nat_tests}
-use mathlib.Core.Option.{some, some-injective, some-ne-none}
-use lib.ListN.{get_elem?}
+use Rattle.board.proofs.Words.{AllGiven, ap, arith, get_elem?, given_by, is_name, IsBelow, IsGiven, length, List, Named, NamesRise, nat_lt, nat_tests}
+use Rattle.board.proofs.Words.{PassKnowledge, some, some-injective, some-ne-none, subst, suc, sym, times_named, unit_if, zero, ℕ, [], ◌&&◌, ◌++◌, ◌<◌, ◌==◌}
+use Rattle.board.proofs.Words.{◌∙◌, ◌∷◌, ◌≡◌, ◌≤◌}
+use Rattle.std.proofs.Common.{true}
 use Rattle.tallies.proofs.Lists.{part_found, count_cons}
 use Rattle.tallies.proofs.Requests.{by_test}
-use Rattle.board.specs.declared.line.Named.{Named}
-use Rattle.board.specs.declared.line.PassKnowledge.{PassKnowledge}
-use Rattle.board.specs.Rule.{unit_if, given_by, is_name, times_named, IsGiven, AllGiven, IsBelow, NamesRise}
 use Rattle.board.specs.Laws.{AlwaysInOrder, GivenOnce, NoOther, SameItem, InTurn, TakesRise}
 use Rattle.board.proofs.Names.{rises_front}
 use Rattle.board.proofs.laws.given_once.Goals as goal

@@ -1,6 +1,4 @@
-use Rattle.std.proofs.Common.{◌≡◌, ◌<◌, ap, length, [], arith}
-use Rattle.std.proofs.lemmas.Bool.Decides.{nat_tests}
-use Rattle.syntax.proofs.Joins.{free_u32, whole}
+use Rattle.decode.proofs.Words.{ap, arith, free_u32, length, nat_tests, whole, [], ◌<◌, ◌≡◌}
 use Rattle.decode.proofs.RefusalLaws.{hence, stops_before}
 use Rattle.decode.proofs.AssemblyLaws.{started_exit, start_some}
 use Rattle.decode.proofs.assembly.started.Goals as goal

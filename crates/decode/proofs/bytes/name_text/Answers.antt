@@ -1,7 +1,6 @@
-use Rattle.std.proofs.Common.{subst, sym, Bor, List, ℕ}
+use Rattle.decode.proofs.Words.{Bor, free_counted, leaves_only_if, List, shorter, subst, sym, ℕ}
 use Rattle.std.specs.Prelude.{IsUtf8}
 use Rattle.syntax.specs.Language.{name as spells_name}
-use Rattle.syntax.proofs.Joins.{leaves_only_if, free_counted, shorter}
 use Rattle.decode.proofs.RefusalLaws.{hence, stops_behind}
 use Rattle.decode.proofs.Exits.{exit_by}
 use Rattle.decode.proofs.bytes.name_text.Goals as goal

@@ -1,6 +1,4 @@
-use Rattle.std.proofs.Common.{arith}
-use Rattle.syntax.proofs.Joins.{apart}
-use Rattle.syntax.proofs.ModuleLaws.{leaves_locals}
+use Rattle.decode.proofs.Words.{apart, arith, leaves_locals}
 use Rattle.decode.proofs.RefusalLaws.{hence, ended}
 use Rattle.decode.proofs.Exits.{exit}
 use Rattle.decode.proofs.LocalLaws.{locals_counted, groups_few}

@@ -1,8 +1,4 @@
-use Rattle.std.proofs.Common.{◌≡◌, ◌<◌, ◌+◌, length, arith, ◌∙◌}
-use Rattle.limits.specs.declared.TheConstants.{MAX_LOCALS}
-use Rattle.syntax.proofs.Joins.{shorter}
-use Rattle.syntax.proofs.ModuleLaws.{free_group}
-use Rattle.decode.specs.Inner.Locals.{as_pair}
+use Rattle.decode.proofs.Words.{arith, as_pair, free_group, length, MAX_LOCALS, shorter, ◌+◌, ◌<◌, ◌∙◌, ◌≡◌}
 use Rattle.decode.proofs.RefusalLaws.{after, stops_there}
 use Rattle.decode.proofs.Exits.{exit}
 use Rattle.decode.proofs.LocalLaws.{filled_up, group_more, in_others, no_group, too_many}

@@ -1,11 +1,5 @@
-use Rattle.std.proofs.Common.{◌≡◌, ◌<◌, ap, length, List, [], ℕ, arith}
-use Rattle.std.proofs.lemmas.Bool.Decides.{nat_tests}
-use Rattle.syntax.specs.Language.{Leaves}
-use Rattle.syntax.specs.Instructions.{expr}
-use Rattle.syntax.proofs.Joins.{apart, whole}
-use Rattle.syntax.proofs.ExprLaws.{free_expr}
+use Rattle.decode.proofs.Words.{ap, apart, arith, expr, free_expr, held, Leaves, length, List, nat_tests, whole, ℕ, [], ◌<◌, ◌≡◌}
 use Rattle.syntax.proofs.ModuleLaws.{free_locals}
-use Rattle.decode.specs.Inner.Locals.{held}
 use Rattle.decode.proofs.RefusalLaws.{hence, after, stops_before}
 use Rattle.decode.proofs.Exits.{past}
 use Rattle.decode.proofs.AssemblyLaws.{all_exit}

@@ -1,7 +1,5 @@
-use Rattle.std.proofs.Common.{◌≡◌, ◌-◌, ◌+◌, true, length, ◌∙◌, arith}
+use Rattle.handles.proofs.Words.{arith, is_lt, length, place_cmp, true, ◌+◌, ◌-◌, ◌∙◌, ◌≡◌}
 use Rattle.std.proofs.lemmas.Bool.Decides.{nat_tests}
-use Rattle.std.specs.Ordering.{is_lt}
-use Rattle.handles.specs.Place.{place_cmp}
 use Rattle.handles.proofs.Searches.{is_less, past_all}
 use Rattle.handles.proofs.sorted.search.Goals as goal
 

@@ -1,6 +1,4 @@
-use Rattle.std.proofs.Common.{◌≡◌, length, rules, Some, refl}
-use Rattle.std.specs.Prelude.{slice_get}
-use Rattle.std.proofs.lemmas.Option.{slice_get_read}
+use Rattle.imports.proofs.Words.{length, refl, rules, slice_get, slice_get_read, Some, ◌≡◌}
 use Rattle.imports.proofs.Known.{imports_from}
 use Rattle.imports.proofs.Calls.{or_now}
 use Rattle.imports.proofs.by_name.call_of.Goals as goal

@@ -1,9 +1,4 @@
-use Rattle.std.proofs.Common.{◌≡◌, ◌≢◌, All, subst, rules}
-use Rattle.std.proofs.lemmas.List.{take_all}
-use Rattle.std.proofs.lemmas.Slice.Eq.{bytes_eq-Decides}
-use Rattle.syntax.specs.declared.contents.Contents.{Contents}
-use Rattle.syntax.specs.declared.contents.ModuleExport.{ModuleExport}
-use Rattle.imports.specs.Uv.{name_of_entry}
+use Rattle.imports.proofs.Words.{All, bytes_eq-Decides, Contents, ModuleExport, name_of_entry, rules, subst, take_all, ◌≡◌, ◌≢◌}
 use Rattle.imports.proofs.Known.{callable_at}
 use Rattle.imports.proofs.by_name.entry_of.Goals as goal
 

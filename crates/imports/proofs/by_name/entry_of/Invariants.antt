@@ -1,5 +1,4 @@
-use Rattle.std.proofs.Common.{◌≢◌, All, take}
-use Rattle.imports.specs.Uv.{name_of_entry}
+use Rattle.imports.proofs.Words.{All, name_of_entry, take, ◌≢◌}
 use Rattle.imports.proofs.by_name.entry_of.Given as goal
 
 abbrev pub invariant-loop-export : goal.invariant-loop-export

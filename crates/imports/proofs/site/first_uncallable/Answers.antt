@@ -1,9 +1,4 @@
-use Rattle.std.proofs.Common.{◌≡◌, ◌<◌, length, get_or, All, Some, refl, subst, rules}
-use Rattle.std.specs.Prelude.{slice_get}
-use Rattle.std.proofs.lemmas.List.{take_all}
-use Rattle.std.proofs.lemmas.List.Elements.{All-more}
-use Rattle.std.proofs.lemmas.Option.{slice_get_read}
-use Rattle.imports.specs.Linking.{IsCallable}
+use Rattle.imports.proofs.Words.{All, All-more, get_or, IsCallable, length, refl, rules, slice_get, slice_get_read, Some, subst, take_all, ◌<◌, ◌≡◌}
 use Rattle.imports.proofs.site.first_uncallable.Goals as goal
 
 pub loop-number-preserved : goal.loop-number-preserved

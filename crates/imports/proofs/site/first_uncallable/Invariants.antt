@@ -1,5 +1,4 @@
-use Rattle.std.proofs.Common.{take, All}
-use Rattle.imports.specs.Linking.{IsCallable}
+use Rattle.imports.proofs.Words.{All, IsCallable, take}
 use Rattle.imports.proofs.site.first_uncallable.Given as goal
 
 abbrev pub invariant-loop-number : goal.invariant-loop-number

@@ -1,5 +1,4 @@
-use Rattle.std.proofs.Common.{take, All}
-use Rattle.imports.specs.Linking.{IsKnown}
+use Rattle.imports.proofs.Words.{All, IsKnown, take}
 use Rattle.imports.proofs.site.first_unknown.Given as goal
 
 abbrev pub invariant-loop-number : goal.invariant-loop-number

@@ -1,10 +1,5 @@
-use Rattle.interp.proofs.Words.{◌≡◌, ℕ, ◌+◌, ◌-◌, ◌≤◌, Some, List, length, map, take, drop, sym, ap, ◌∙◌, arith, slice_get, ValType}
-use Rattle.interp.proofs.Words.{Value, FuncType, type_of, as_operands}
-use Rattle.std.proofs.Common.{length-drop}
-use Rattle.std.proofs.lemmas.List.{length-take}
-use Rattle.instance.specs.Store.{MemoryInstance}
-use Rattle.interp.specs.Slots.Resuming.{laid}
-use Rattle.interp.specs.Inner.Slots.ValuesRead.{typed_values}
+use Rattle.interp.proofs.Words.{ap, arith, as_operands, drop, FuncType, laid, length, length-drop, length-take, List, map, MemoryInstance, slice_get, Some, sym}
+use Rattle.interp.proofs.Words.{take, type_of, typed_values, ValType, Value, ℕ, ◌+◌, ◌-◌, ◌∙◌, ◌≡◌, ◌≤◌}
 use Rattle.interp.specs.Inner.Slots.HostAsked.{arguments}
 use Rattle.interp.proofs.Slots.ValuesRead.{between, typed_types}
 use Rattle.interp.proofs.asking.ask_host.Goals as goal

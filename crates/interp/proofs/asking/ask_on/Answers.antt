@@ -1,4 +1,4 @@
-use Rattle.interp.proofs.Words.{◌∙◌}
+use Rattle.reduction.proofs.Words.{◌∙◌}
 use Rattle.interp.proofs.Slots.Hosted.{relent}
 use Rattle.interp.proofs.asking.ask_on.Goals as goal
 

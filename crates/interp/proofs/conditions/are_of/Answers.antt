@@ -1,4 +1,4 @@
-use Rattle.interp.proofs.Words.{◌≡◌, length, arith, refl, length-map, Value, type_of, types_of}
+use Rattle.reduction.proofs.Words.{arith, length, length-map, refl, type_of, types_of, Value, ◌≡◌}
 use Rattle.std.proofs.lemmas.List.{ext_get_or}
 use Rattle.syntax.specs.declared.types.ValType.TheVariants.{I32}
 use Rattle.interp.proofs.conditions.are_of.Goals as goal

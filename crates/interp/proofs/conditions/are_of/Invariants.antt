@@ -1,6 +1,5 @@
-use Rattle.std.proofs.Common.{◌≡◌, ℕ, ◌<◌, get_or}
+use Rattle.interp.proofs.Words.{get_or, types_of, ℕ, ◌<◌, ◌≡◌}
 use Rattle.syntax.specs.declared.types.ValType.TheVariants.{I32}
-use Rattle.reduction.specs.Configuration.{types_of}
 use Rattle.interp.proofs.conditions.are_of.Given as goal
 
 abbrev pub invariant-loop-index : goal.invariant-loop-index

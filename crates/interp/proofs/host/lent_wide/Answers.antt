@@ -1,5 +1,4 @@
-use Rattle.std.proofs.Common.{Some, ap, ◌∙◌}
-use Rattle.syntax.specs.declared.types.Value.{Value}
+use Rattle.interp.proofs.Words.{ap, Some, Value, ◌∙◌}
 use Rattle.syntax.specs.declared.types.ValType.TheVariants as valtype
 use Rattle.interp.proofs.Slots.ValuesRead.{known_at, within_known}
 use Rattle.interp.proofs.host.lent_wide.Goals as goal

@@ -1,7 +1,4 @@
-use Rattle.interp.proofs.Words.{◌≡◌, ℕ, List, length, take, ap, ◌∙◌, arith}
-use Rattle.syntax.specs.declared.types.ValType.{ValType}
-use Rattle.events.specs.Bare.{whole_ending}
-use Rattle.interp.specs.Lent.{result_count, ending_with}
+use Rattle.interp.proofs.Words.{ap, arith, ending_with, length, List, result_count, take, ValType, whole_ending, ℕ, ◌∙◌, ◌≡◌}
 use Rattle.interp.proofs.CountsOfResults.{count_is, without_results}
 use Rattle.interp.proofs.invoke.invoke_bare.Goals as goal
 

@@ -1,20 +1,11 @@
-use Rattle.interp.proofs.Words.{◌≡◌, length, ap, ◌∙◌, arith, ℕ, List, ValType, FuncType, ◌-◌, Option, subst, sym}
-use Rattle.std.proofs.Common.{take, ◌<◌}
+use Rattle.interp.proofs.Words.{ap, arith, CallDoes, Caller, Ended, ended_on, Ending, ending_with, EndsAt, EndsSo, FuncType, Halt, IsGranted, Last, last_of}
+use Rattle.interp.proofs.Words.{length, List, Option, result_count, standing, stop_of, subst, sym, take, ValType, ℕ, ◌-◌, ◌<◌, ◌∙◌, ◌≡◌}
 use Rattle.interp.proofs.CallersRoom.{deep}
 use Rattle.interp.proofs.Slots.CallsBegin.{found_type, can_open, under_way, call_does}
 use Rattle.interp.proofs.invoke.invoke_defined.Given.{Over}
 use Rattle.interp.proofs.invoke.invoke_defined.Goals as goal
 use Rattle.interp.proofs.invoke.invoke_defined.Goals.{After-read_results}
-use Rattle.events.specs.declared.ended.Ended.{Ended}
-use Rattle.events.specs.declared.ended.Ending.{Ending}
-use Rattle.interp.specs.Lent.{ending_with, result_count, result_count_of}
-use Rattle.interp.specs.Inner.Slots.ValuesRead.{ended_on}
-use Rattle.instance.specs.declared.stack.Caller.{Caller}
-use Rattle.instance.specs.declared.stack.Last.{Last}
-use Rattle.instance.specs.Stops.{Halt, stop_of}
-use Rattle.engine.specs.Stepping.{standing}
-use Rattle.interp.specs.Inner.Calling.{CallDoes}
-use Rattle.interp.specs.Slots.Hosted.{IsGranted, EndsAt, EndsSo, last_of}
+use Rattle.interp.specs.Lent.{result_count_of}
 
 pub open-at-requires : goal.open-at-requires
 open-at-requires g c =

@@ -1,11 +1,6 @@
-use Rattle.std.proofs.Common.{◌≡◌, ◌∙◌, ℕ, List, ap, length, take, sym, refl, arith}
-use Rattle.syntax.specs.declared.types.Value.{Value}
-use Rattle.syntax.specs.declared.types.ValType.{ValType}
-use Rattle.instance.specs.Store.{MemoryInstance}
-use Rattle.reduction.specs.Run.{as_operands}
+use Rattle.interp.proofs.Words.{ap, arith, as_operands, length, length-map, List, MemoryInstance, refl, result_count, sym, take, type_of, ValType, Value, ℕ}
+use Rattle.interp.proofs.Words.{◌∙◌, ◌≡◌}
 use Rattle.reduction.proofs.Outside.{answer_returns, invoked_import, memory_kept}
-use Rattle.interp.proofs.Words.{length-map, type_of}
-use Rattle.interp.specs.Lent.{result_count}
 use Rattle.interp.proofs.CountsOfResults.{count_is}
 use Rattle.interp.proofs.invoke.invoke_import.Given.{Over}
 use Rattle.interp.proofs.invoke.invoke_import.Goals as goal

@@ -1,4 +1,4 @@
-use Rattle.interp.proofs.Words.{arith, I32}
+use Rattle.reduction.proofs.Words.{arith, I32}
 use Rattle.interp.proofs.Slots.ValuesRead.{one_laid, one_small}
 use Rattle.interp.proofs.opening.lay_arguments.Goals as goal
 

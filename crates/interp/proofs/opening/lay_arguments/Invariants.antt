@@ -1,4 +1,4 @@
-use Rattle.interp.proofs.Words.{◌≡◌, ◌++◌, take, drop, AreSmall, erased}
+use Rattle.interp.proofs.Words.{AreSmall, drop, erased, take, ◌++◌, ◌≡◌}
 use Rattle.interp.proofs.opening.lay_arguments.Given as goal
 
 abbrev pub invariant-loop-index : goal.invariant-loop-index

@@ -1,5 +1,4 @@
-use Rattle.interp.proofs.Words.{List, ℕ, length, replicate, ap, ◌∙◌, length-map, number_in, erased}
-use Rattle.std.proofs.Math.Seq.{paste}
+use Rattle.interp.proofs.Words.{ap, erased, length, length-map, List, number_in, paste, replicate, ℕ, ◌∙◌}
 use Rattle.interp.proofs.Slots.ValuesRead.{zeros_behind}
 use Rattle.interp.proofs.opening.lay_locals.Goals as goal
 

@@ -1,5 +1,4 @@
-use Rattle.interp.proofs.Words.{ℕ, ◌+◌, ◌++◌, List, length, drop, replicate, ap, ◌∙◌, arith, erased}
-use Rattle.std.proofs.Common.{length-drop}
+use Rattle.interp.proofs.Words.{ap, arith, drop, erased, length, length-drop, List, replicate, ℕ, ◌++◌, ◌+◌, ◌∙◌}
 use Rattle.interp.proofs.Slots.Hosted.{relent}
 use Rattle.interp.proofs.opening.lay_on.Goals as goal
 

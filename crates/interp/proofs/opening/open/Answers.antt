@@ -1,7 +1,5 @@
-use Rattle.limits.specs.declared.TheConstants.{MAX_HEIGHT}
-use Rattle.interp.proofs.Words.{◌≡◌, ℕ, ◌+◌, ◌-◌, ◌≤◌, ◌++◌, Some, List, length, drop, replicate, ap, ◌∙◌, arith, length-append, slice_get, FuncType}
-use Rattle.interp.proofs.Words.{Func, erased}
-use Rattle.std.proofs.lemmas.List.{length-replicate}
+use Rattle.interp.proofs.Words.{ap, arith, drop, erased, Func, FuncType, length, length-append, length-replicate, List, MAX_HEIGHT, replicate, slice_get, Some}
+use Rattle.interp.proofs.Words.{ℕ, ◌++◌, ◌+◌, ◌-◌, ◌∙◌, ◌≡◌, ◌≤◌}
 use Rattle.reduction.proofs.OneRun.{one_function}
 use Rattle.interp.proofs.opening.open.Goals as goal
 use Rattle.interp.proofs.opening.open.Goals.{then-len-room, else-len-room}

@@ -1,5 +1,4 @@
-use Rattle.std.proofs.Common.{◌≡◌, take, length}
-use Rattle.interp.specs.Inner.Slots.ValuesRead.{typed_values}
+use Rattle.interp.proofs.Words.{length, take, typed_values, ◌≡◌}
 use Rattle.interp.proofs.reading.read.Given as goal
 
 abbrev pub invariant-loop-index : goal.invariant-loop-index

@@ -1,7 +1,4 @@
-use Rattle.std.proofs.Common.{◌-◌, List, take, refl, arith}
-use Rattle.instance.specs.declared.stack.Caller.{Caller}
-use Rattle.engine.specs.Programs.{program_of}
-use Rattle.engine.specs.Stepping.{standing}
+use Rattle.interp.proofs.Words.{arith, Caller, List, program_of, refl, standing, take, ◌-◌}
 use Rattle.interp.proofs.CallersRoom.{deep}
 use Rattle.interp.proofs.Slots.CallsBegin.{can_open}
 use Rattle.interp.proofs.Slots.Hosted.{comes_nowhere}

@@ -1,21 +1,15 @@
-use Rattle.std.proofs.Common.{◌≡◌, ℕ, ◌+◌, ◌-◌, ◌*◌, ◌<◌, ◌≤◌, ◌↔◌, IsTrue, Bool, take, true, false, refl, sym, subst, arith, min as nat_min, ⊎_elim}
+use Rattle.interp.proofs.Words.{ap, arith, BareEnding, Bool, ComesFromAny, Ended, ended_on, Ending, ending_with, EndsAt, false, IsGranted, IsUnderWay, length}
+use Rattle.interp.proofs.Words.{length-take, List, MachineState, refl, subst, sym, take, topmost_values, true, Value, ℕ, ◌*◌, ◌+◌, ◌-◌, ◌<◌, ◌∙◌, ◌≡◌, ◌≤◌}
+use Rattle.std.proofs.Common.{◌↔◌, IsTrue, min as nat_min, ⊎_elim}
 use Rattle.std.proofs.Math.Nat.{eq-or-lt_of_le}
-use Rattle.std.proofs.Common.{◌∙◌, List, ap, length, length-take}
-use Rattle.syntax.specs.declared.types.Value.{Value}
-use Rattle.events.specs.declared.ended.Ended.{Ended}
-use Rattle.events.specs.declared.ended.Ending.{Ending}
 use Rattle.events.specs.declared.ended.Ending.TheVariants as ending
 use Rattle.events.specs.declared.ended.BareEnded.{BareEnded}
-use Rattle.events.specs.declared.ended.BareEnding.{BareEnding}
 use Rattle.events.specs.declared.ended.BareEnding.TheVariants as bare
-use Rattle.interp.specs.Lent.{ending_with, ended_with}
-use Rattle.interp.specs.Inner.Slots.ValuesRead.{topmost_values, ended_on}
+use Rattle.interp.specs.Lent.{ended_with}
 use Rattle.interp.proofs.CountsOfResults.{spent_only}
 use Rattle.interp.proofs.Slots.Slicing.{going, paused_again, is_over, stands_there, slice_returns_typed, slice_all, slice_kept, slice_within, slice_typed, slice_fit, slice_few_results}
 use Rattle.interp.specs.Slices.{IsMost}
 use Rattle.interp.specs.declared.paused.TheConstants.{UNIT_BYTES}
-use Rattle.interp.specs.Slots.Hosted.{IsUnderWay, IsGranted, EndsAt, ComesFromAny}
-use Rattle.engine.specs.Stepping.{MachineState}
 use Rattle.interp.proofs.slices.go_on.Given.{Over}
 use Rattle.interp.proofs.slices.go_on.Goals as goal
 use Rattle.interp.proofs.slices.go_on.Goals.{After-run_within-run}

@@ -1,5 +1,4 @@
-use Rattle.std.proofs.Common.{◌∙◌, subst}
-use Rattle.syntax.specs.Loaded.{Loaded}
+use Rattle.order.proofs.Words.{Loaded, subst, ◌∙◌}
 use Rattle.interp.specs.Machines.{MachineFits}
 use Rattle.order.proofs.reserving.all_parts.Goals as goal
 

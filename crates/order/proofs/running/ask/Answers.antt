@@ -1,7 +1,4 @@
-use Rattle.std.proofs.Common.{◌≡◌, ◌+◌, ℕ, subst, arith}
-use Rattle.order.specs.Orders.{order_of}
-use Rattle.order.specs.Stopping.{ComputesTo}
-use Rattle.order.specs.Work.{Computes}
+use Rattle.order.proofs.Words.{arith, Computes, ComputesTo, order_of, subst, ℕ, ◌+◌, ◌≡◌}
 use Rattle.order.proofs.InSlices.{work_computes}
 use Rattle.order.proofs.running.ask.Goals as goal
 

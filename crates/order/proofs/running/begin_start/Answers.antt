@@ -1,9 +1,4 @@
-use Rattle.std.proofs.Common.{◌≡◌, ℕ, sym, ap, ◌∙◌, subst, Some, None}
-use Rattle.std.specs.Arc.{arc_value}
-use Rattle.syntax.specs.Loaded.{Loaded}
-use Rattle.syntax.specs.declared.contents.Contents.{Contents}
-use Rattle.imports.specs.Linking.{IsLinked}
-use Rattle.order.specs.Orders.{order_of}
+use Rattle.order.proofs.Words.{ap, arc_value, Contents, IsLinked, Loaded, None, order_of, Some, subst, sym, ℕ, ◌∙◌, ◌≡◌}
 use Rattle.order.proofs.InSlices.{no_start, start_takes, start_is_defined, goes_on_same}
 use Rattle.order.proofs.running.begin_start.Goals as goal
 

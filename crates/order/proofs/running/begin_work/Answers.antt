@@ -1,12 +1,4 @@
-use Rattle.std.proofs.Common.{◌≡◌, ℕ, ◌+◌, sym, subst, codes, arith}
-use Rattle.std.specs.Arc.{arc_value}
-use Rattle.syntax.specs.Loaded.{Loaded}
-use Rattle.imports.specs.Linking.{ExportsFunction}
-use Rattle.std.proofs.Common.{Some}
-use Rattle.validate.specs.Typing.{type_of_function}
-use Rattle.imports.specs.declared.entry_point.EntryPoint.TheVariants.{Work}
-use Rattle.imports.specs.Uv.{type_of_entry}
-use Rattle.order.specs.Orders.{order_of}
+use Rattle.order.proofs.Words.{arc_value, arith, codes, ExportsFunction, Loaded, order_of, Some, subst, sym, type_of_entry, type_of_function, Work, ℕ, ◌+◌, ◌≡◌}
 use Rattle.order.proofs.InSlices.{work_takes, goes_on_same}
 use Rattle.order.proofs.running.begin_work.Goals as goal
 

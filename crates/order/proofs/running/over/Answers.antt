@@ -1,10 +1,4 @@
-use Rattle.std.proofs.Common.{Option, sym, subst}
-use Rattle.instance.specs.Stops.{Halt}
-use Rattle.reduction.specs.Running.{end_of_run}
-use Rattle.order.specs.declared.host.WorkHost.{WorkHost}
-use Rattle.order.specs.Orders.{order_of}
-use Rattle.order.specs.Work.{EndsAs}
-use Rattle.order.specs.Stopping.{ComputesTo}
+use Rattle.order.proofs.Words.{ComputesTo, end_of_run, EndsAs, Halt, Option, order_of, subst, sym, WorkHost}
 use Rattle.order.proofs.running.over.Goals as goal
 
 pub tell-requires-clause-computes : goal.tell-requires-clause-computes

@@ -1,6 +1,4 @@
-use Rattle.std.proofs.Common.{ℕ, ◌-◌, [], Some, sym, ap, ◌∙◌, arith}
-use Rattle.instance.specs.Stops.{stop_of}
-use Rattle.order.specs.Orders.{order_of}
+use Rattle.order.proofs.Words.{ap, arith, order_of, Some, stop_of, sym, ℕ, [], ◌-◌, ◌∙◌}
 use Rattle.order.proofs.InSlices.{start_computes, start_returns, no_results, goes_on_from}
 use Rattle.order.proofs.running.start_on.Goals as goal
 

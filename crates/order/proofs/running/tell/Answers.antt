@@ -1,7 +1,4 @@
-use Rattle.order.specs.Orders.{order_of, end_of}
-use Rattle.std.proofs.Common.{List, ℕ, subst}
-use Rattle.reduction.specs.Running.{end_of_run}
-use Rattle.order.specs.Work.{EndsAs}
+use Rattle.order.proofs.Words.{end_of, end_of_run, EndsAs, List, order_of, subst, ℕ}
 use Rattle.order.proofs.WorkHostAnswers.{is_end, uses}
 use Rattle.order.proofs.WhereOrdersStop.{leaves}
 use Rattle.order.proofs.running.tell.Goals as goal

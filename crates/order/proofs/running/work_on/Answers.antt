@@ -1,12 +1,5 @@
-use Rattle.std.proofs.Common.{◌≡◌, ◌-◌, ℕ, [], ◌∷◌, Some, codes, sym, subst}
-use Rattle.std.specs.Arc.{arc_value}
-use Rattle.syntax.specs.declared.types.Value.TheVariants.{I32}
-use Rattle.imports.specs.declared.entry_point.EntryPoint.TheVariants.{Work}
-use Rattle.imports.specs.Uv.{type_of_entry}
-use Rattle.imports.specs.Linking.{ExportsFunction}
-use Rattle.validate.specs.Typing.{type_of_function}
-use Rattle.instance.specs.Stops.{stop_of}
-use Rattle.order.specs.Orders.{order_of}
+use Rattle.order.proofs.Words.{arc_value, codes, ExportsFunction, I32, order_of, Some, stop_of, subst, sym, type_of_entry, type_of_function, Work, ℕ, [], ◌-◌}
+use Rattle.order.proofs.Words.{◌∷◌, ◌≡◌}
 use Rattle.order.proofs.FunctionTypes.{has_type}
 use Rattle.order.proofs.InSlices.{work_computes}
 use Rattle.order.proofs.running.work_on.Goals as goal

@@ -1,5 +1,4 @@
-use Rattle.std.proofs.Common.{◌≡◌, map, take}
-use Rattle.phases.specs.Roster.{callback_in}
+use Rattle.phases.proofs.Words.{callback_in, map, take, ◌≡◌}
 use Rattle.phases.proofs.callbacks.callbacks_of.Given as goal
 
 abbrev pub invariant-loop-element : goal.invariant-loop-element

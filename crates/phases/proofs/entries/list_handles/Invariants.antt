@@ -1,6 +1,4 @@
-use Rattle.std.proofs.Common.{◌≡◌, map, take}
-use Rattle.handles.specs.Table.{entry}
-use Rattle.phases.specs.PhaseList.{handle_entry}
+use Rattle.phases.proofs.Words.{entry, handle_entry, map, take, ◌≡◌}
 use Rattle.phases.proofs.entries.list_handles.Given as goal
 
 abbrev pub invariant-loop-place : goal.invariant-loop-place

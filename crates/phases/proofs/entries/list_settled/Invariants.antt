@@ -1,6 +1,5 @@
-use Rattle.std.proofs.Common.{◌≡◌, ◌≤◌, map, filter, take, length}
+use Rattle.phases.proofs.Words.{filter, is_settled, length, map, take, ◌≡◌, ◌≤◌}
 use Rattle.phases.specs.declared.entry.Entry.TheVariants.{After}
-use Rattle.phases.specs.Requests.{is_settled}
 use Rattle.phases.proofs.entries.list_settled.Given as goal
 
 abbrev pub invariant-loop-request : goal.invariant-loop-request

@@ -1,7 +1,5 @@
-use Rattle.std.proofs.Common.{◌+◌, None, refl, arith, take, length-take-le, get_or}
-use Rattle.std.proofs.Common.{map, cond, [], ◌∷◌}
-use Rattle.phases.specs.declared.entry.Entry.TheVariants.{Async}
-use Rattle.phases.specs.PhaseList.{active_from, is_active_handle}
+use Rattle.phases.proofs.Words.{active_from, arith, Async, cond, get_or, is_active_handle, map, None, refl, take, [], ◌+◌, ◌∷◌}
+use Rattle.std.proofs.Common.{length-take-le}
 use Rattle.phases.proofs.ActiveAsyncs.{active_more, joined}
 use Rattle.phases.proofs.entries.push_asyncs.Goals as goal
 

@@ -1,7 +1,4 @@
-use Rattle.std.proofs.Common.{◌≡◌, ◌≤◌, ◌+◌, ◌++◌, map, take, length}
-use Rattle.limits.specs.declared.TheConstants.{MAX_REQUESTS}
-use Rattle.phases.specs.declared.entry.Entry.TheVariants.{Async}
-use Rattle.phases.specs.PhaseList.{active_from}
+use Rattle.phases.proofs.Words.{active_from, Async, length, map, MAX_REQUESTS, take, ◌++◌, ◌+◌, ◌≡◌, ◌≤◌}
 use Rattle.phases.proofs.entries.push_asyncs.Given as goal
 
 abbrev pub invariant-loop-async_no : goal.invariant-loop-async_no

@@ -1,10 +1,4 @@
-use Rattle.std.proofs.Common.{refl, ap, ◌∙◌}
-use Rattle.std.specs.Option.{is_some}
-use Rattle.syntax.specs.Loaded.{Loaded}
-use Rattle.syntax.specs.declared.contents.Contents.{Contents}
-use Rattle.imports.specs.declared.entry_point.EntryPoint.TheVariants.{Main}
-use Rattle.imports.specs.Uv.{name_of_entry}
-use Rattle.phases.specs.Roster.{callbacks_of}
+use Rattle.phases.proofs.Words.{ap, callbacks_of, Contents, is_some, Loaded, Main, name_of_entry, refl, ◌∙◌}
 use Rattle.phases.proofs.HostExports.{found_exports}
 use Rattle.phases.proofs.LoopsKeep.{new_state}
 use Rattle.phases.proofs.opening.machine_of.Goals as goal

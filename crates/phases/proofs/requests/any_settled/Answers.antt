@@ -1,7 +1,4 @@
-use Rattle.std.proofs.Common.{Bool, sym, ap, ◌∙◌}
-use Rattle.std.specs.List.{list_any}
-use Rattle.std.proofs.lemmas.List.{take_all}
-use Rattle.phases.specs.Requests.{Request, is_settled}
+use Rattle.phases.proofs.Words.{ap, Bool, is_settled, list_any, Request, sym, take_all, ◌∙◌}
 use Rattle.phases.proofs.FrontSearches.{any_here, any_passed}
 use Rattle.phases.proofs.RequestsRise.{any_filtered}
 use Rattle.phases.proofs.requests.any_settled.Goals as goal

@@ -1,6 +1,4 @@
-use Rattle.std.proofs.Common.{◌≡◌, false, take}
-use Rattle.std.specs.List.{list_any}
-use Rattle.phases.specs.Requests.{is_settled}
+use Rattle.phases.proofs.Words.{false, is_settled, list_any, take, ◌≡◌}
 use Rattle.phases.proofs.requests.any_settled.Given as goal
 
 abbrev pub invariant-loop-item : goal.invariant-loop-item

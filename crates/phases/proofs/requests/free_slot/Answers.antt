@@ -1,7 +1,6 @@
-use Rattle.limits.specs.declared.TheConstants.{MAX_REQUESTS}
+use Rattle.phases.proofs.Words.{arith, MAX_REQUESTS}
 use Rattle.phases.proofs.RequestsRise.{enough}
 use Rattle.phases.proofs.requests.free_slot.Goals as goal
-use Rattle.std.proofs.Common.{arith}
 
 pub unreachable-requires : goal.unreachable-requires
 unreachable-requires c =

@@ -1,5 +1,4 @@
-use Rattle.std.proofs.Common.{◌≡◌, ℕ, ◌<◌, ◌==◌, true}
-use Rattle.std.specs.List.{list_any}
+use Rattle.phases.proofs.Words.{list_any, true, ℕ, ◌<◌, ◌==◌, ◌≡◌}
 use Rattle.phases.proofs.requests.free_slot.Given as goal
 
 abbrev pub invariant-loop-slot : goal.invariant-loop-slot

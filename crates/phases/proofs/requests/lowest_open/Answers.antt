@@ -1,5 +1,4 @@
-use Rattle.std.proofs.Common.{sym, ◌∙◌, Bool}
-use Rattle.phases.specs.Requests.{Request, is_open_stage}
+use Rattle.phases.proofs.Words.{Bool, is_open_stage, Request, sym, ◌∙◌}
 use Rattle.phases.proofs.FrontSearches.{found, here, passed}
 use Rattle.phases.proofs.requests.lowest_open.Goals as goal
 

@@ -1,6 +1,4 @@
-use Rattle.std.proofs.Common.{◌≡◌, None, take}
-use Rattle.std.specs.List.{find}
-use Rattle.phases.specs.Requests.{is_open_stage}
+use Rattle.phases.proofs.Words.{find, is_open_stage, None, take, ◌≡◌}
 use Rattle.phases.proofs.requests.lowest_open.Given as goal
 
 abbrev pub invariant-loop-at : goal.invariant-loop-at

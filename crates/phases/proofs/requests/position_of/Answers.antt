@@ -1,6 +1,4 @@
-use Rattle.std.proofs.Common.{sym, ◌∙◌}
-use Rattle.std.proofs.lemmas.Bool.{eq-eqb, ne_eqb}
-use Rattle.phases.specs.Requests.{has_number}
+use Rattle.phases.proofs.Words.{eq-eqb, has_number, ne_eqb, sym, ◌∙◌}
 use Rattle.phases.proofs.FrontSearches.{found, here, passed}
 use Rattle.phases.proofs.requests.position_of.Goals as goal
 

@@ -1,6 +1,4 @@
-use Rattle.std.proofs.Common.{◌==◌, Bool, ℕ, sym, ◌∙◌}
-use Rattle.std.proofs.lemmas.Bool.{eq-eqb, ne_eqb}
-use Rattle.phases.specs.Requests.{Request}
+use Rattle.phases.proofs.Words.{Bool, eq-eqb, ne_eqb, Request, sym, ℕ, ◌==◌, ◌∙◌}
 use Rattle.phases.proofs.requests.uses_slot.Goals as goal
 use Rattle.phases.proofs.FrontSearches.{any_here, any_passed}
 

@@ -1,5 +1,4 @@
-use Rattle.std.proofs.Common.{◌≡◌, false, take, ◌==◌}
-use Rattle.std.specs.List.{list_any}
+use Rattle.phases.proofs.Words.{false, list_any, take, ◌==◌, ◌≡◌}
 use Rattle.phases.proofs.requests.uses_slot.Given as goal
 
 abbrev pub invariant-loop-item : goal.invariant-loop-item

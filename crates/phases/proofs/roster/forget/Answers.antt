@@ -1,6 +1,5 @@
-use Rattle.std.proofs.Common.{ℕ, List, Option, length, map, ap, ◌∙◌}
+use Rattle.phases.proofs.Words.{ap, length, List, map, Option, unless_handle, ℕ, ◌∙◌}
 use Rattle.arrayvec.proofs.ArrayVecLemmas.{items-with_items}
-use Rattle.phases.specs.Roster.{unless_handle}
 use Rattle.phases.proofs.roster.forget.Goals as goal
 
 pub returns : goal.returns

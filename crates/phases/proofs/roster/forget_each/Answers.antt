@@ -1,5 +1,4 @@
-use Rattle.std.proofs.Common.{None}
-use Rattle.phases.specs.Roster.{unless_handle}
+use Rattle.phases.proofs.Words.{None, unless_handle}
 use Rattle.phases.proofs.RewrittenLists.{one_more}
 use Rattle.phases.proofs.roster.forget_each.Goals as goal
 

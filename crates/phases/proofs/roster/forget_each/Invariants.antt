@@ -1,5 +1,4 @@
-use Rattle.std.proofs.Common.{◌≡◌, ◌++◌, map, take, drop}
-use Rattle.phases.specs.Roster.{unless_handle}
+use Rattle.phases.proofs.Words.{drop, map, take, unless_handle, ◌++◌, ◌≡◌}
 use Rattle.phases.proofs.roster.forget_each.Given as goal
 
 abbrev pub invariant-loop-number : goal.invariant-loop-number

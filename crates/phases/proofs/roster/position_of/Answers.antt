@@ -1,11 +1,8 @@
-use Rattle.std.proofs.Common.{◌≡◌, ℕ, Option, Some, None, sym, true, false, get_or, arith}
-use Rattle.std.specs.List.{list_any, All}
-use Rattle.std.specs.Option.{option_eq}
+use Rattle.phases.proofs.Words.{All, arith, false, get_or, is_handle, list_any, list_any_none, None, Option, Some, sym, true, ℕ, ◌≡◌}
 use Rattle.std.proofs.Common.{eqb}
+use Rattle.std.specs.Option.{option_eq}
 use Rattle.std.proofs.lemmas.List.Elements.{All-from_get_or}
-use Rattle.std.proofs.lemmas.List.Folds.{list_any_none}
 use Rattle.std.proofs.lemmas.List.Sums.{position_or_len_is}
-use Rattle.phases.specs.Roster.{is_handle}
 use Rattle.phases.proofs.roster.position_of.Goals as goal
 
 is_here : (handle : ℕ) (o : Option ℕ) → true ≡ option_eq eqb o (Some handle) → is_handle handle o ≡ true

@@ -1,5 +1,4 @@
-use Rattle.std.proofs.Common.{◌≡◌, ℕ, ◌<◌, false, None, get_or}
-use Rattle.phases.specs.Roster.{is_handle}
+use Rattle.phases.proofs.Words.{false, get_or, is_handle, None, ℕ, ◌<◌, ◌≡◌}
 use Rattle.phases.proofs.roster.position_of.Given as goal
 
 abbrev pub invariant-loop-number : goal.invariant-loop-number

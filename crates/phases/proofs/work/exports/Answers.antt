@@ -1,5 +1,4 @@
-use Rattle.std.proofs.Common.{◌∙◌}
-use Rattle.imports.specs.Uv.{name_of_entry}
+use Rattle.phases.proofs.Words.{name_of_entry, ◌∙◌}
 use Rattle.phases.proofs.HostExports.{found_exports}
 use Rattle.phases.proofs.work.exports.Goals as goal
 

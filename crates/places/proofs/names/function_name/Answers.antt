@@ -1,6 +1,4 @@
-use Rattle.std.proofs.Common.{drop, refl, arith}
-use Rattle.std.specs.Prelude.{slice_range}
-use Rattle.syntax.specs.Binary.{Section, section}
+use Rattle.places.proofs.Words.{arith, drop, refl, Section, section, slice_range}
 use Rattle.places.proofs.SpanLaws.{if_some}
 use Rattle.places.proofs.WalkLaws.{if_none, none_then, unmet_none, unmet_more, past_all}
 use Rattle.places.proofs.NameLaws.{IsNameSection, names_one, names_there, names_none, no_names}

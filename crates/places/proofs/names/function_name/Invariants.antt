@@ -1,5 +1,4 @@
-use Rattle.std.proofs.Common.{◌≡◌, ◌≤◌, ◌+◌, length, drop}
-use Rattle.syntax.specs.Binary.{section}
+use Rattle.places.proofs.Words.{drop, length, section, ◌+◌, ◌≡◌, ◌≤◌}
 use Rattle.places.proofs.WalkLaws.{Unmet}
 use Rattle.places.proofs.NameLaws.{IsNameSection}
 use Rattle.places.proofs.names.function_name.Given as goal

@@ -1,8 +1,4 @@
-use Rattle.std.proofs.Common.{◌≤◌, length, drop, refl, arith, rules}
-use Rattle.std.specs.Prelude.{slice_range}
-use Rattle.syntax.specs.Binary.{Section, section}
-use Rattle.syntax.proofs.ModuleLaws.{free_section}
-use Rattle.places.specs.Told.{IsLinking}
+use Rattle.places.proofs.Words.{arith, drop, free_section, IsLinking, length, refl, rules, Section, section, slice_range, ◌≤◌}
 use Rattle.places.proofs.WalkLaws.{unmet_none, unmet_more, unmet_first, unmet_end, past_all, not_true, yes_true}
 use Rattle.places.proofs.names.is_object.Goals as goal
 

@@ -1,6 +1,4 @@
-use Rattle.std.proofs.Common.{◌≡◌, ◌≤◌, ◌+◌, length, drop}
-use Rattle.syntax.specs.Binary.{section}
-use Rattle.places.specs.Told.{IsLinking}
+use Rattle.places.proofs.Words.{drop, IsLinking, length, section, ◌+◌, ◌≡◌, ◌≤◌}
 use Rattle.places.proofs.WalkLaws.{Unmet}
 use Rattle.places.proofs.names.is_object.Given as goal
 

@@ -1,7 +1,4 @@
-use Rattle.std.proofs.Common.{◌≡◌, drop, refl, arith}
-use Rattle.std.specs.Prelude.{slice_range}
-use Rattle.syntax.specs.Language.{Leaves}
-use Rattle.syntax.specs.Binary.{Section, section}
+use Rattle.places.proofs.Words.{arith, drop, Leaves, refl, Section, section, slice_range, ◌≡◌}
 use Rattle.places.proofs.SpanLaws.{if_some}
 use Rattle.places.proofs.WalkLaws.{if_none, none_then, unmet_none, unmet_more, past_all}
 use Rattle.places.proofs.NameLaws.{named_there, not_named, no_part}

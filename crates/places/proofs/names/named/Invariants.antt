@@ -1,5 +1,4 @@
-use Rattle.std.proofs.Common.{◌≡◌, ◌≤◌, length, drop}
-use Rattle.syntax.specs.Binary.{Section, section}
+use Rattle.places.proofs.Words.{drop, length, Section, section, ◌≡◌, ◌≤◌}
 use Rattle.places.proofs.WalkLaws.{Unmet}
 use Rattle.places.proofs.names.named.Given as goal
 

@@ -1,5 +1,4 @@
-use Rattle.std.proofs.Common.{rules, get_or}
-use Rattle.std.proofs.lemmas.Option.{slice_get-get_or}
+use Rattle.places.proofs.Words.{get_or, rules, slice_get-get_or}
 use Rattle.places.proofs.LengthLaws.{runs_none, runs_more, integer_ends, no_integer}
 use Rattle.places.proofs.operations.behind_integer.Goals as goal
 

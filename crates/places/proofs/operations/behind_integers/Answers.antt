@@ -1,8 +1,5 @@
-use Rattle.std.proofs.Common.{◌≡◌, ◌+◌, ℕ, subst, drop, arith}
-use Rattle.std.specs.Prelude.{suc}
-use Rattle.syntax.specs.Language.{Leaves}
-use Rattle.places.specs.Walks.{repeated}
-use Rattle.places.specs.Lengths.{integer}
+use Rattle.places.proofs.Words.{arith, drop, integer, Leaves, repeated, suc, ℕ, ◌+◌, ◌≡◌}
+use Rattle.std.proofs.Common.{subst}
 use Rattle.places.proofs.WalkLaws.{if_none}
 use Rattle.places.proofs.LengthLaws.{integer_one, repeated_none, repeated_more, repeated_ends}
 use Rattle.places.proofs.operations.behind_integers.Goals as goal

@@ -1,7 +1,4 @@
-use Rattle.std.proofs.Common.{◌≤◌, drop, length}
-use Rattle.syntax.specs.Language.{Leaves}
-use Rattle.places.specs.Walks.{repeated}
-use Rattle.places.specs.Lengths.{integer}
+use Rattle.places.proofs.Words.{drop, integer, Leaves, length, repeated, ◌≤◌}
 use Rattle.places.proofs.operations.behind_integers.Given as goal
 
 abbrev pub invariant-loop : goal.invariant-loop

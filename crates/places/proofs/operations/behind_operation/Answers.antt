@@ -1,6 +1,4 @@
-use Rattle.std.proofs.Common.{rules, get_or, ◌≡◌}
-use Rattle.std.proofs.lemmas.Option.{slice_get-get_or}
-use Rattle.places.specs.Lengths.{immediates_of}
+use Rattle.places.proofs.Words.{get_or, immediates_of, rules, slice_get-get_or, ◌≡◌}
 use Rattle.places.proofs.WalkLaws.{if_none, none_then, none_empty}
 use Rattle.places.proofs.LengthLaws.{free_operation, table_some, plain_some, no_table_labels, no_table_integers, no_plain}
 use Rattle.places.proofs.operations.behind_operation.Goals as goal

@@ -1,6 +1,5 @@
-use Rattle.std.proofs.Common.{◌≡◌, ℕ, refl, sym, ◌∙◌, arith, get_or}
-use Rattle.std.proofs.lemmas.Option.{get_or_from_slice_get}
-use Rattle.places.specs.Lengths.{operation}
+use Rattle.places.proofs.Words.{arith, get_or, get_or_from_slice_get, operation, refl, sym, ℕ, ◌≡◌}
+use Rattle.std.proofs.Common.{◌∙◌}
 use Rattle.places.proofs.WalkLaws.{if_none, unmet_none, unmet_more, unmet_first, unmet_end, none_empty}
 use Rattle.places.proofs.LengthLaws.{free_operation}
 use Rattle.places.proofs.segments.behind_offset.Goals as goal

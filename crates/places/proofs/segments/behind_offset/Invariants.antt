@@ -1,5 +1,4 @@
-use Rattle.std.proofs.Common.{◌≡◌, ◌≤◌, ℕ, length, drop}
-use Rattle.places.specs.Lengths.{operation}
+use Rattle.places.proofs.Words.{drop, length, operation, ℕ, ◌≡◌, ◌≤◌}
 use Rattle.places.proofs.WalkLaws.{Unmet}
 use Rattle.places.proofs.segments.behind_offset.Given as goal
 

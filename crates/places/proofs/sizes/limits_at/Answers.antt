@@ -1,5 +1,4 @@
-use Rattle.std.proofs.Common.{rules, length, refl}
-use Rattle.std.proofs.lemmas.Option.{slice_get_read}
+use Rattle.places.proofs.Words.{length, refl, rules, slice_get_read}
 use Rattle.places.proofs.WalkLaws.{if_none}
 use Rattle.places.proofs.LimitLaws.{no_limits_past, no_limits_first, no_limits_most, limits_least, limits_most}
 use Rattle.places.proofs.sizes.limits_at.Goals as goal

@@ -1,5 +1,4 @@
-use Rattle.std.specs.Prelude.{slice_range}
-use Rattle.places.specs.Spans.{BodyAt}
+use Rattle.places.proofs.Words.{BodyAt, slice_range}
 use Rattle.places.proofs.SpanLaws.{u32_stands, bodies_more, body_there}
 use Rattle.places.proofs.spans.body_at.Goals as goal
 

@@ -1,6 +1,4 @@
-use Rattle.std.proofs.Common.{rules}
-use Rattle.std.specs.Prelude.{slice_range}
-use Rattle.places.specs.Spans.{BodyAt}
+use Rattle.places.proofs.Words.{BodyAt, rules, slice_range}
 use Rattle.places.proofs.SpanLaws.{number_stands, bodies_more, body_there}
 use Rattle.places.proofs.WalkLaws.{if_none}
 use Rattle.places.proofs.BodyLaws.{missed_none, missed_more, no_body_behind, no_body_of, no_body_count, not_so}

@@ -1,5 +1,4 @@
-use Rattle.std.proofs.Common.{rules, length, refl}
-use Rattle.std.proofs.lemmas.Option.{slice_get_read}
+use Rattle.places.proofs.Words.{length, refl, rules, slice_get_read}
 use Rattle.places.proofs.WalkLaws.{one_none, no_cut_past, no_cut_size, cut_fits, cut_there}
 use Rattle.places.proofs.spans.cut_at.Goals as goal
 

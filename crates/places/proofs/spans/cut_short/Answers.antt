@@ -1,5 +1,4 @@
-use Rattle.std.proofs.Common.{◌++◌, ◌∷◌, [], ◌≤◌, length, refl, arith, None}
-use Rattle.std.specs.Prelude.{slice_range}
+use Rattle.places.proofs.Words.{arith, length, None, refl, slice_range, [], ◌++◌, ◌∷◌, ◌≤◌}
 use Rattle.places.proofs.SpanLaws.{past_none, past_more}
 use Rattle.places.proofs.WalkLaws.{past_all, no_cut_past, cut_behind}
 use Rattle.places.proofs.spans.cut_short.Goals as goal

@@ -1,5 +1,4 @@
-use Rattle.std.proofs.Common.{◌≡◌, ◌≤◌, ◌+◌, List, length}
-use Rattle.syntax.specs.Binary.{Section}
+use Rattle.places.proofs.Words.{length, List, Section, ◌+◌, ◌≡◌, ◌≤◌}
 use Rattle.places.proofs.SpanLaws.{Past}
 use Rattle.places.proofs.spans.cut_short.Given as goal
 

@@ -1,7 +1,4 @@
-use Rattle.std.proofs.Common.{refl, arith}
-use Rattle.std.specs.Prelude.{slice_range}
-use Rattle.syntax.specs.Binary.{section}
-use Rattle.places.specs.Spans.{StandsBetween, FirstSectionAt}
+use Rattle.places.proofs.Words.{arith, FirstSectionAt, refl, section, slice_range, StandsBetween}
 use Rattle.places.proofs.SpanLaws.{others_none, others_more, section_there}
 use Rattle.places.proofs.WalkLaws.{if_none, no_section, past_all}
 use Rattle.places.proofs.spans.find.Goals as goal

@@ -1,5 +1,4 @@
-use Rattle.std.proofs.Common.{rules, length, refl}
-use Rattle.std.proofs.lemmas.Option.{slice_get_read}
+use Rattle.places.proofs.Words.{length, refl, rules, slice_get_read}
 use Rattle.places.proofs.SpanLaws.{section_stands}
 use Rattle.places.proofs.WalkLaws.{if_none, no_size}
 use Rattle.places.proofs.spans.section_at.Goals as goal

@@ -1,6 +1,4 @@
-use Rattle.std.proofs.Common.{◌++◌, ◌∷◌, []}
-use Rattle.std.specs.Prelude.{slice_range}
-use Rattle.syntax.specs.Binary.{Section}
+use Rattle.places.proofs.Words.{Section, slice_range, [], ◌++◌, ◌∷◌}
 use Rattle.places.proofs.SpanLaws.{past_more}
 use Rattle.places.proofs.spans.section_with.Goals as goal
 

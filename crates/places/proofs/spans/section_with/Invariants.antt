@@ -1,5 +1,4 @@
-use Rattle.std.proofs.Common.{List}
-use Rattle.syntax.specs.Binary.{Section}
+use Rattle.places.proofs.Words.{List, Section}
 use Rattle.places.proofs.SpanLaws.{Past}
 use Rattle.places.proofs.spans.section_with.Given as goal
 

@@ -1,5 +1,4 @@
-use Rattle.std.proofs.Common.{refl}
-use Rattle.std.specs.Arc.{arc_value}
+use Rattle.resident.proofs.Words.{arc_value, refl}
 use Rattle.resident.proofs.AnyHost.{paused_unseen}
 use Rattle.resident.proofs.calling.begin_call.Goals as goal
 

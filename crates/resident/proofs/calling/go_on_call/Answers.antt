@@ -1,7 +1,4 @@
-use Rattle.std.proofs.Common.{Option, Some, None, arith}
-use Rattle.std.specs.Prelude.{IfSome}
-use Rattle.std.specs.Arc.{arc_value}
-use Rattle.instance.specs.Stops.{stop_of}
+use Rattle.resident.proofs.Words.{arc_value, arith, IfSome, None, Option, Some, stop_of}
 use Rattle.resident.proofs.SlicesAreOneCall.{some_paused, over_calls, goes_on}
 use Rattle.resident.proofs.calling.go_on_call.Goals as goal
 

@@ -1,5 +1,4 @@
-use Rattle.std.proofs.Common.{◌≡◌, ap, ◌∙◌}
-use Rattle.claims.specs.Views.{WorkerView, EachOnce}
+use Rattle.serve.proofs.Words.{ap, EachOnce, WorkerView, ◌∙◌, ◌≡◌}
 use Rattle.serve.proofs.Gathering.{all_front, all_last, one_gathered, first_gathered}
 use Rattle.serve.proofs.crew.gather_seats.Goals as goal
 

@@ -1,6 +1,4 @@
-use Rattle.std.proofs.Common.{◌≡◌, ◌++◌, length, All}
-use Rattle.std.specs.Prelude.{flat_map}
-use Rattle.claims.specs.Views.{EachOnce}
+use Rattle.serve.proofs.Words.{All, EachOnce, flat_map, length, ◌++◌, ◌≡◌}
 use Rattle.serve.proofs.crew.gather_seats.Given as goal
 
 abbrev pub invariant-loop-seat : goal.invariant-loop-seat

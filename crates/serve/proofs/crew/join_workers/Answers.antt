@@ -1,6 +1,4 @@
-use Rattle.std.proofs.Common.{length, arith}
-use Rattle.serve.specs.Inner.Ends.{WorkerEnds}
-use Rattle.serve.specs.Inner.Promises.{IsWorkerThreadOf}
+use Rattle.serve.proofs.Words.{arith, IsWorkerThreadOf, length, WorkerEnds}
 use Rattle.serve.proofs.NumberedLists.{from_first, from_rest, pair_push, longer_by, shorter_by}
 use Rattle.serve.proofs.Promised.{worker_ended}
 use Rattle.serve.proofs.crew.join_workers.Goals as goal

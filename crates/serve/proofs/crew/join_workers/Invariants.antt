@@ -1,7 +1,4 @@
-use Rattle.std.proofs.Common.{◌≡◌, ◌≤◌, ◌+◌, length, vec_capacity}
-use Rattle.serve.specs.Inner.Ends.{WorkerEnds}
-use Rattle.serve.specs.Inner.Places.{EachFrom, EachPair}
-use Rattle.serve.specs.Inner.Promises.{IsWorkerThreadOf}
+use Rattle.serve.proofs.Words.{EachFrom, EachPair, IsWorkerThreadOf, length, vec_capacity, WorkerEnds, ◌+◌, ◌≡◌, ◌≤◌}
 use Rattle.serve.proofs.crew.join_workers.Given as goal
 
 abbrev pub invariant-loop-thread : goal.invariant-loop-thread

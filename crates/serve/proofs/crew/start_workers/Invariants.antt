@@ -1,6 +1,4 @@
-use Rattle.std.proofs.Common.{◌≡◌, ◌≤◌, ◌+◌, length, vec_capacity}
-use Rattle.serve.specs.Inner.Places.{EachFrom, EachDown}
-use Rattle.serve.specs.Inner.Promises.{IsWorkerThreadOf}
+use Rattle.serve.proofs.Words.{EachDown, EachFrom, IsWorkerThreadOf, length, vec_capacity, ◌+◌, ◌≡◌, ◌≤◌}
 use Rattle.serve.proofs.crew.start_workers.Given as goal
 
 abbrev pub invariant-loop-place : goal.invariant-loop-place

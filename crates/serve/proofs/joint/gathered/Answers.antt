@@ -1,7 +1,5 @@
-use Rattle.std.proofs.Common.{◌≡◌, ◌+◌, length, All, sym, ap, ◌∙◌, subst, arith}
-use Rattle.std.specs.Arc.{arc_value}
+use Rattle.serve.proofs.Words.{All, ap, arc_value, AreNumbered, AreRepliesWhole, arith, IsPassOf, length, subst, sym, ◌+◌, ◌∙◌, ◌≡◌}
 use Rattle.std.proofs.lemmas.List.{length-append}
-use Rattle.board.specs.Boards.{IsPassOf, AreNumbered, AreRepliesWhole}
 use Rattle.serve.proofs.Gathered.{all_own, all_numbered, all_claims, all_once, some_seats, as_many_loops, each_served, jointly}
 use Rattle.serve.proofs.joint.gathered.Goals as goal
 

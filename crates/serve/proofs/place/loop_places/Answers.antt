@@ -1,6 +1,4 @@
-use Rattle.std.proofs.Common.{◌≡◌, length, sym, ap, subst, ◌∙◌, arith}
-use Rattle.claims.specs.Views.{LoopView, new_loop_view}
-use Rattle.serve.specs.Inner.Places.{IsPassAt, EachDown}
+use Rattle.serve.proofs.Words.{ap, arith, EachDown, IsPassAt, length, LoopView, new_loop_view, subst, sym, ◌∙◌, ◌≡◌}
 use Rattle.serve.proofs.NumberedLists.{from_front, from_last, longer_by}
 use Rattle.serve.proofs.Placing.{one_less, down_push}
 use Rattle.serve.proofs.place.loop_places.Goals as goal

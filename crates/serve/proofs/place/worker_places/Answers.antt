@@ -1,6 +1,4 @@
-use Rattle.std.proofs.Common.{◌≡◌, ◌+◌, length, sym, ap, subst, ◌∙◌, arith}
-use Rattle.claims.specs.Views.{WorkerView, new_worker_view}
-use Rattle.serve.specs.Inner.Places.{IsPassAt, EachDown}
+use Rattle.serve.proofs.Words.{ap, arith, EachDown, IsPassAt, length, new_worker_view, subst, sym, WorkerView, ◌+◌, ◌∙◌, ◌≡◌}
 use Rattle.serve.proofs.NumberedLists.{from_front, from_last, longer_by}
 use Rattle.serve.proofs.Placing.{one_less, down_push}
 use Rattle.serve.proofs.place.worker_places.Goals as goal

@@ -1,6 +1,4 @@
-use Rattle.std.proofs.Common.{◌≡◌, ◌+◌, length}
-use Rattle.claims.specs.Views.{new_worker_view}
-use Rattle.serve.specs.Inner.Places.{IsPassAt, EachFrom, EachDown}
+use Rattle.serve.proofs.Words.{EachDown, EachFrom, IsPassAt, length, new_worker_view, ◌+◌, ◌≡◌}
 use Rattle.serve.proofs.place.worker_places.Given as goal
 
 abbrev pub invariant-loop-seat : goal.invariant-loop-seat

@@ -1,9 +1,5 @@
-use Rattle.std.proofs.Common.{length, arith}
-use Rattle.std.specs.Arc.{arc_value}
+use Rattle.serve.proofs.Words.{arc_value, arith, IsThreadOf, length, LoopEnds, setting_at}
 use Rattle.std.proofs.lemmas.Result.{on_ok_weaker}
-use Rattle.serve.specs.Histories.{setting_at}
-use Rattle.serve.specs.Inner.Ends.{LoopEnds}
-use Rattle.serve.specs.Inner.Promises.{IsThreadOf}
 use Rattle.serve.proofs.NumberedLists.{from_first, from_rest, pair_push, longer_by, shorter_by, on_both}
 use Rattle.serve.proofs.Promised.{loop_ended}
 use Rattle.serve.proofs.threads.join_loops.Goals as goal

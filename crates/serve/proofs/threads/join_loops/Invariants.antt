@@ -1,9 +1,4 @@
-use Rattle.std.proofs.Common.{◌≡◌, ◌≤◌, ◌+◌, length, vec_capacity, OnOk}
-use Rattle.std.specs.Arc.{arc_value}
-use Rattle.serve.specs.Histories.{setting_at}
-use Rattle.serve.specs.Inner.Ends.{LoopEnds}
-use Rattle.serve.specs.Inner.Places.{EachFrom, EachPair}
-use Rattle.serve.specs.Inner.Promises.{IsThreadOf}
+use Rattle.serve.proofs.Words.{arc_value, EachFrom, EachPair, IsThreadOf, length, LoopEnds, OnOk, setting_at, vec_capacity, ◌+◌, ◌≡◌, ◌≤◌}
 use Rattle.serve.proofs.threads.join_loops.Given as goal
 
 abbrev pub invariant-loop-thread : goal.invariant-loop-thread

@@ -1,6 +1,4 @@
-use Rattle.std.proofs.Common.{◌≡◌, ◌≤◌, ◌+◌, length, vec_capacity}
-use Rattle.serve.specs.Inner.Places.{EachFrom, EachDown}
-use Rattle.serve.specs.Inner.Promises.{IsThreadOf}
+use Rattle.serve.proofs.Words.{EachDown, EachFrom, IsThreadOf, length, vec_capacity, ◌+◌, ◌≡◌, ◌≤◌}
 use Rattle.serve.proofs.threads.start_loops.Given as goal
 
 abbrev pub invariant-loop-place : goal.invariant-loop-place

@@ -1,5 +1,4 @@
-use Rattle.std.proofs.Common.{rules, ◌≡◌, length, refl, arith}
-use Rattle.std.proofs.lemmas.Option.{slice_get_read}
+use Rattle.syntax.proofs.Words.{arith, length, refl, rules, slice_get_read, ◌≡◌}
 use Rattle.syntax.proofs.ExportLaws.{none_more, within}
 use Rattle.syntax.proofs.export.first_place.Goals as goal
 

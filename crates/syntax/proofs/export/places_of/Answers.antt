@@ -1,7 +1,5 @@
-use Rattle.std.proofs.Common.{◌≡◌, nat_eq, length, refl, ap, is_some, sym, subst, ◌∙◌, arith, Vec, Global, ℕ, List, ◌+◌, ◌++◌, ◌∷◌, []}
-use Rattle.std.proofs.lemmas.Option.{slice_get_read}
-use Rattle.std.specs.Cmp.Lexicographic.{pointwise}
-use Rattle.indexmap.specs.IndexMap.{get_by}
+use Rattle.syntax.proofs.Words.{ap, arith, get_by, is_some, length, List, nat_eq, pointwise, refl, slice_get_read, subst, sym, ℕ, [], ◌++◌, ◌+◌, ◌∙◌, ◌∷◌, ◌≡◌}
+use Rattle.std.proofs.Common.{Vec, Global}
 use Rattle.indexmap.proofs.CallerLemmas.{insert_entry-new}
 use Rattle.syntax.proofs.ExportLaws.{TellsBefore, place_in, none_found, tells_at_end, tells_present, tells_inserted}
 use Rattle.syntax.proofs.export.places_of.Goals.{then-not-contains_key+in_ok-from_slice+in_ok-insert, else-not-contains_key}

@@ -1,6 +1,4 @@
-use Rattle.std.proofs.Common.{nat_eq}
-use Rattle.std.specs.Cmp.Lexicographic.{pointwise}
-use Rattle.indexmap.specs.IndexMap.{get_by}
+use Rattle.syntax.proofs.Words.{get_by, nat_eq, pointwise}
 use Rattle.syntax.proofs.ExportLaws.{TellsBefore}
 use Rattle.syntax.proofs.export.places_of.Given as goal
 

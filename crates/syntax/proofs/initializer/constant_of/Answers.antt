@@ -1,9 +1,6 @@
-use Rattle.std.proofs.Common.{rules, ◌≡◌, length, get_or, slice_get, Some, sym, ap, ◌∙◌}
+use Rattle.syntax.proofs.Words.{ap, Const, Done, get_or, length, operations, Plain, rules, slice_get, Some, sym, Value, ◌∙◌, ◌≡◌}
 use Rattle.std.proofs.lemmas.Option.{get_or_from_slice_get}
-use Rattle.syntax.specs.declared.types.Value.{Value}
 use Rattle.syntax.specs.declared.instruction.Token.TheVariants as op
-use Rattle.syntax.specs.declared.instruction.Instr.TheVariants.{Const}
-use Rattle.syntax.specs.Code.{Done, Plain, operations}
 use Rattle.syntax.proofs.Constants.{constant_code, same_value}
 use Rattle.syntax.proofs.initializer.constant_of.Goals as goal
 

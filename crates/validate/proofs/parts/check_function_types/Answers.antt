@@ -1,6 +1,4 @@
-use Rattle.std.proofs.Common.{rules}
-use Rattle.std.specs.Prelude.{IsSome, slice_get}
-use Rattle.syntax.specs.declared.contents.Func.{Func}
+use Rattle.validate.proofs.Words.{Func, IsSome, rules, slice_get}
 use Rattle.validate.proofs.Items.{all_more, all_at_end}
 use Rattle.validate.proofs.parts.check_function_types.Goals as goal
 

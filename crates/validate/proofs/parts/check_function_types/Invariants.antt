@@ -1,5 +1,4 @@
-use Rattle.std.proofs.Common.{take, All}
-use Rattle.std.specs.Prelude.{IsSome, slice_get}
+use Rattle.validate.proofs.Words.{All, IsSome, slice_get, take}
 use Rattle.validate.proofs.parts.check_function_types.Given as goal
 
 abbrev pub invariant-loop-func : goal.invariant-loop-func

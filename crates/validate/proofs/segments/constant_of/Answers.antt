@@ -1,5 +1,4 @@
-use Rattle.std.proofs.Common.{◌≡◌, Some, refl, sym, ap, ◌∙◌}
-use Rattle.syntax.specs.Code.{Code}
+use Rattle.validate.proofs.Words.{ap, Code, refl, Some, sym, ◌∙◌, ◌≡◌}
 use Rattle.validate.specs.Segments.{constant_in}
 use Rattle.validate.proofs.segments.constant_of.Goals as goal
 

@@ -1,5 +1,4 @@
-use Rattle.std.proofs.lemmas.Result.{err_from_is_err_and}
-use Rattle.validate.specs.Refusals.{Refutes}
+use Rattle.validate.proofs.Words.{err_from_is_err_and, Refutes}
 use Rattle.validate.proofs.Refused.{refutes_at}
 use Rattle.validate.proofs.Exact.{refuted}
 use Rattle.validate.proofs.valid.validate.Goals as goal

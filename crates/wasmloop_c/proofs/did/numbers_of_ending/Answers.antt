@@ -1,5 +1,4 @@
-use Rattle.std.proofs.Common.{◌≡◌, List, refl}
-use Rattle.syntax.specs.declared.types.Value.{Value}
+use Rattle.wasmloop_c.proofs.Names.{List, refl, Value, ◌≡◌}
 use Rattle.events.specs.Bare.{IsBare}
 use Rattle.events.specs.declared.ended.Ending.{Ending}
 use Rattle.events.specs.declared.ended.Ending.TheVariants.{Return}

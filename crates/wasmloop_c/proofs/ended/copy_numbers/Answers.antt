@@ -1,5 +1,4 @@
-use Rattle.std.proofs.Common.{sym, ◌∙◌}
-use Rattle.wasmloop_c.specs.Values.{number_of_value}
+use Rattle.wasmloop_c.proofs.Names.{number_of_value, sym, ◌∙◌}
 use Rattle.wasmloop_c.proofs.Front.{one_copied}
 use Rattle.wasmloop_c.proofs.ended.copy_numbers.Goals as goal
 

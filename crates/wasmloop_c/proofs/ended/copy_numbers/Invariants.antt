@@ -1,5 +1,4 @@
-use Rattle.std.proofs.Common.{◌≡◌, ◌≤◌, ◌++◌, take, drop, map, length}
-use Rattle.wasmloop_c.specs.Values.{number_of_value}
+use Rattle.wasmloop_c.proofs.Names.{drop, length, map, number_of_value, take, ◌++◌, ◌≡◌, ◌≤◌}
 use Rattle.wasmloop_c.proofs.ended.copy_numbers.Given as goal
 
 abbrev pub invariant-loop-index : goal.invariant-loop-index

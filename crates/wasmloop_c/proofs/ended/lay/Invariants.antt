@@ -1,5 +1,4 @@
-use Rattle.std.proofs.Common.{◌≡◌, Some, take, length}
-use Rattle.wasmloop_c.specs.Values.{values_of}
+use Rattle.wasmloop_c.proofs.Names.{length, Some, take, values_of, ◌≡◌}
 use Rattle.wasmloop_c.proofs.ended.lay.Given as goal
 
 abbrev pub invariant-loop-index : goal.invariant-loop-index

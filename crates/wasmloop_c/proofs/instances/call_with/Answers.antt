@@ -1,8 +1,5 @@
-use Rattle.std.proofs.Common.{◌≡◌, ◌≤◌, ◌∙◌, ℕ, List, [], ◌∷◌, length, take, sym, ap, arith, refl}
+use Rattle.wasmloop_c.proofs.Names.{ap, arith, Contents, FuncType, length, List, refl, sym, take, Value, ℕ, [], ◌∙◌, ◌∷◌, ◌≡◌, ◌≤◌}
 use Rattle.std.proofs.lemmas.List.{take_all, length-take-le}
-use Rattle.syntax.specs.declared.contents.Contents.{Contents}
-use Rattle.syntax.specs.declared.contents.FuncType.{FuncType}
-use Rattle.syntax.specs.declared.types.Value.{Value}
 use Rattle.syntax.specs.declared.types.Value.TheVariants.{I32}
 use Rattle.validate.specs.Typing.{HasFunctionType}
 use Rattle.interp.specs.Lent.{ended_in, ended_with, result_count}

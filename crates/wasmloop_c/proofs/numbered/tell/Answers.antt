@@ -1,5 +1,4 @@
-use Rattle.std.proofs.Common.{rules}
-use Rattle.resident.specs.Calls.{ExportsNoFunction}
+use Rattle.wasmloop_c.proofs.Names.{ExportsNoFunction, rules}
 use Rattle.wasmloop_c.proofs.numbered.tell.Goals as goal
 
 pub returns-in_default : goal.returns-in_default

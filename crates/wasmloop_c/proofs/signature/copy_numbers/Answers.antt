@@ -1,5 +1,4 @@
-use Rattle.std.proofs.Common.{sym, ◌∙◌}
-use Rattle.wasmloop_c.specs.Signatures.{type_number}
+use Rattle.wasmloop_c.proofs.Names.{sym, type_number, ◌∙◌}
 use Rattle.wasmloop_c.proofs.Front.{one_copied}
 use Rattle.wasmloop_c.proofs.signature.copy_numbers.Goals as goal
 

@@ -1,5 +1,4 @@
-use Rattle.std.proofs.Common.{◌≡◌, ◌≤◌, ◌++◌, take, drop, map, length}
-use Rattle.wasmloop_c.specs.Signatures.{type_number}
+use Rattle.wasmloop_c.proofs.Names.{drop, length, map, take, type_number, ◌++◌, ◌≡◌, ◌≤◌}
 use Rattle.wasmloop_c.proofs.signature.copy_numbers.Given as goal
 
 abbrev pub invariant-loop-index : goal.invariant-loop-index

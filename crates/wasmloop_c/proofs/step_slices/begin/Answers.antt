@@ -1,9 +1,5 @@
-use Rattle.std.proofs.Common.{refl, ap, subst, inl, inr}
-use Rattle.desk.specs.Desk.{Desk, desk_calls}
-use Rattle.phases.specs.Slices.{StepBegins}
-use Rattle.phases.specs.declared.slices.StepSlice.{StepSlice}
+use Rattle.wasmloop_c.proofs.Names.{ap, Desk, desk_calls, HeldLoop, inl, inr, refl, StepBegins, StepSlice, subst}
 use Rattle.phases.specs.declared.slices.StepSlice.TheVariants as slice
-use Rattle.wasmloop_c.specs.declared.held.HeldLoop.{HeldLoop}
 use Rattle.wasmloop_c.specs.declared.thing.LoopStage.TheVariants as stage
 use Rattle.wasmloop_c.proofs.HeldLoops.{begins, same}
 use Rattle.wasmloop_c.proofs.step_slices.begin.Goals as goal

@@ -1,5 +1,4 @@
-use Rattle.std.proofs.Common.{sym, ◌∙◌}
-use Rattle.wasmloop_c.specs.Sites.{IsSiteOf, told_of}
+use Rattle.wasmloop_c.proofs.Names.{IsSiteOf, sym, told_of, ◌∙◌}
 use Rattle.wasmloop_c.proofs.Sites.{one_more}
 use Rattle.wasmloop_c.proofs.stops.copy_sites.Goals as goal
 

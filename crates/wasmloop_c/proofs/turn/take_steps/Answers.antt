@@ -1,6 +1,4 @@
-use Rattle.std.proofs.Common.{rules, ◌≡◌, ℕ, ◌+◌, ◌-◌, ◌^◌, ◌==◌, sym, subst, arith}
-use Rattle.wasmloop_c.specs.Calls.{one_if}
-use Rattle.wasmloop_c.specs.declared.did.TheConstants.{RAN}
+use Rattle.wasmloop_c.proofs.Names.{arith, one_if, RAN, rules, subst, sym, ℕ, ◌+◌, ◌-◌, ◌==◌, ◌^◌, ◌≡◌}
 use Rattle.wasmloop_c.proofs.Turning.{Stepped, one_more, ended, no_end}
 use Rattle.wasmloop_c.proofs.turn.take_steps.Goals.{then-did-eq-RAN, else-did-eq-RAN}
 use Rattle.wasmloop_c.proofs.turn.take_steps.Goals as goal

@@ -1,11 +1,6 @@
-use Rattle.std.proofs.Common.{rules, ◌≡◌, ◌<◌, ◌+◌, ◌-◌, ◌==◌, ℕ, refl, sym, ap, ◌∙◌, subst, inl, arith}
-use Rattle.wasmloop_c.specs.Calls.{one_if}
+use Rattle.wasmloop_c.proofs.Names.{ap, arith, inl, LoopStage, one_if, RAN, refl, rules, SliceEnd, StepIsTaken, subst, sym, Turning, used_in, ℕ, ◌+◌, ◌-◌, ◌<◌}
+use Rattle.wasmloop_c.proofs.Names.{◌==◌, ◌∙◌, ◌≡◌}
 use Rattle.wasmloop_c.specs.StepSlices.{RunsStep}
-use Rattle.wasmloop_c.specs.TurnSlices.{StepIsTaken, used_in}
-use Rattle.wasmloop_c.specs.declared.did.TheConstants.{RAN}
-use Rattle.wasmloop_c.specs.declared.step_slices.SliceEnd.{SliceEnd}
-use Rattle.wasmloop_c.specs.declared.thing.LoopStage.{LoopStage}
-use Rattle.wasmloop_c.specs.declared.turn_slices.Turning.{Turning}
 use Rattle.wasmloop_c.proofs.TurnsCut.{over_by, refused, taken, may_go_on}
 use Rattle.wasmloop_c.proofs.turn_slices.next.Goals.{then-did-eq-RAN, else-did-eq-RAN, then-ends, else-ends+then-left-eq0, else-ends+else-left-eq0}
 use Rattle.wasmloop_c.proofs.turn_slices.next.Goals as goal

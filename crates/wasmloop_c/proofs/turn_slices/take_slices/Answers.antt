@@ -1,7 +1,5 @@
-use Rattle.std.proofs.Common.{◌≡◌, ◌-◌, ◌^◌, refl, ap, ◌∙◌, subst, inl, inr, arith}
+use Rattle.wasmloop_c.proofs.Names.{ap, arith, inl, inr, LoopStage, refl, subst, Turning, ◌-◌, ◌^◌, ◌∙◌, ◌≡◌}
 use Rattle.wasmloop_c.specs.TurnSlices.{TakesSlice, refusal}
-use Rattle.wasmloop_c.specs.declared.thing.LoopStage.{LoopStage}
-use Rattle.wasmloop_c.specs.declared.turn_slices.Turning.{Turning}
 use Rattle.wasmloop_c.specs.declared.turn_slices.TurnFlow.{TurnFlow}
 use Rattle.wasmloop_c.proofs.TurnsCut.{none_yet, one_more, over_now, pauses, stays, stays_so}
 use Rattle.wasmloop_c.proofs.turn_slices.take_slices.Goals.{then-taken-eq0, else-taken-eq0}

@@ -1,8 +1,5 @@
-use Rattle.std.proofs.Common.{◌≡◌, ◌+◌, ◌-◌, ◌^◌, ℕ, refl, ap, ◌∙◌}
+use Rattle.wasmloop_c.proofs.Names.{ap, counted_on, Did, refl, Turned, ℕ, ◌+◌, ◌-◌, ◌^◌, ◌∙◌, ◌≡◌}
 use Rattle.std.specs.Prelude.{min}
-use Rattle.wasmloop_c.specs.TurnSlices.{counted_on}
-use Rattle.wasmloop_c.specs.declared.did.Did.{Did}
-use Rattle.wasmloop_c.specs.declared.turn.Turned.{Turned}
 use Rattle.wasmloop_c.proofs.TurnsCut.{turns, no_turn}
 use Rattle.wasmloop_c.proofs.turn_slices.turn_stage.Goals.{then-left-eq-OK, else-left-eq-OK}
 use Rattle.wasmloop_c.proofs.turn_slices.turn_stage.Goals as goal

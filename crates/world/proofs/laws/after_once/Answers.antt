@@ -1,7 +1,6 @@
-use Rattle.std.proofs.Common.{sym, ap, ◌∙◌, ◌++◌}
+use Rattle.world.proofs.Words.{ap, opening_world, sym, ◌++◌, ◌∙◌}
 use Rattle.world.proofs.AfterOnce.{history_after, once_after, own_after, last_after}
 use Rattle.world.proofs.GuestsOfRuns.{step_calls, step_of, run_of, each_run_calls}
-use Rattle.world.specs.World.{opening_world}
 use Rattle.world.proofs.laws.after_once.Goals as goal
 
 pub returns-clause-calls : goal.returns-clause-calls

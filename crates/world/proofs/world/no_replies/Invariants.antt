@@ -1,5 +1,4 @@
-use Rattle.std.proofs.Common.{◌≡◌, [], map, replicate}
-use Rattle.world.specs.Making.{answers_of}
+use Rattle.world.proofs.Words.{answers_of, map, replicate, [], ◌≡◌}
 use Rattle.world.proofs.world.no_replies.Given as goal
 
 abbrev pub invariant-loop : goal.invariant-loop

@@ -1,5 +1,4 @@
-use Rattle.std.proofs.Common.{◌++◌, ◌∷◌, [], ◌∙◌, Some, ap, sym}
-use Rattle.std.proofs.lemmas.Option.{slice_get-get_or}
+use Rattle.world.proofs.Words.{ap, slice_get-get_or, Some, sym, [], ◌++◌, ◌∙◌, ◌∷◌}
 use Rattle.world.proofs.WorldsOpen.{loops_more}
 use Rattle.world.proofs.world.opening_loops.Goals as goal
 

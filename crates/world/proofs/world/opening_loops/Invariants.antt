@@ -1,6 +1,4 @@
-use Rattle.std.proofs.Common.{◌≡◌, map, take}
-use Rattle.world.specs.Making.{settings_from}
-use Rattle.world.specs.World.{opening_loop}
+use Rattle.world.proofs.Words.{map, opening_loop, settings_from, take, ◌≡◌}
 use Rattle.world.proofs.world.opening_loops.Given as goal
 
 abbrev pub invariant-loop-place : goal.invariant-loop-place

@@ -1,5 +1,4 @@
-use Rattle.std.proofs.Common.{◌≡◌, Some, slice_get, subst}
-use Rattle.board.specs.Boards.{GatheringView}
+use Rattle.board.proofs.Words.{GatheringView, slice_get, Some, subst, ◌≡◌}
 use Rattle.board.proofs.board.Board.count.Goals as goal
 
 pub count_replies-requires-clause-all : goal.count_replies-requires-clause-all

@@ -1,8 +1,5 @@
-use Rattle.std.proofs.Common.{ℕ, ◌+◌, List, [], ◌∷◌, map, length-append, sym, ap, ◌∙◌, arith}
-use Rattle.std.proofs.lemmas.List.Elements.{All-push}
-use Rattle.order.specs.declared.reply.Reply.{Reply}
-use Rattle.board.specs.Views.{LineView, MakerView, one_later}
-use Rattle.board.specs.Boards.{PassView, BoardView, IsNewPass, HasNumber}
+use Rattle.board.proofs.Words.{All-push, ap, arith, IsNewPass, length-append, LineView, List, MakerView, map, one_later, Reply, sym, ℕ, [], ◌+◌, ◌∙◌, ◌∷◌}
+use Rattle.board.specs.Boards.{PassView, BoardView, HasNumber}
 use Rattle.board.proofs.Makers.{lines_of, made_later, all_numbered, all_keyed, each_push}
 use Rattle.board.proofs.board.Board.with_gathering.Goals as goal
 

@@ -1,7 +1,5 @@
-use Rattle.std.proofs.Common.{◌≡◌, ◌+◌, length, All}
-use Rattle.limits.specs.declared.TheConstants.{MAX_JOBS, MAX_REPLIES}
-use Rattle.board.specs.Views.{maker_at, makers_at}
-use Rattle.board.specs.Boards.{IsNewPass, AreNumbered}
+use Rattle.board.proofs.Words.{All, AreNumbered, IsNewPass, length, maker_at, makers_at, MAX_REPLIES, ◌+◌, ◌≡◌}
+use Rattle.limits.specs.declared.TheConstants.{MAX_JOBS}
 use Rattle.board.proofs.board.Board.with_gathering.Given as goal
 
 abbrev pub invariant-loop : goal.invariant-loop

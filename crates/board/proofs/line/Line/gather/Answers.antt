@@ -1,5 +1,4 @@
-use Rattle.std.proofs.Common.{ap, arith}
-use Rattle.board.specs.Views.{HandView}
+use Rattle.board.proofs.Words.{ap, arith, HandView}
 use Rattle.board.proofs.Moves.{joins}
 use Rattle.board.proofs.line.Line.gather.Goals as goal
 

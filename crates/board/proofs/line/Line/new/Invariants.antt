@@ -1,6 +1,5 @@
-use Rattle.std.proofs.Common.{◌≡◌, []}
+use Rattle.board.proofs.Words.{knows, [], ◌≡◌}
 use Rattle.crossbeam_queue.specs.Passes.{view}
-use Rattle.board.specs.Rule.{knows}
 use Rattle.board.proofs.Moves.{alone}
 use Rattle.board.proofs.line.Line.new.Given as goal
 

@@ -1,7 +1,4 @@
-use Rattle.std.proofs.Common.{◌∙◌, length}
-use Rattle.decode.specs.Inner.Reading.{StopsInside, NoneIs}
-use Rattle.decode.specs.Inner.Locals.{held}
-use Rattle.syntax.proofs.Joins.{leaves_sized}
+use Rattle.decode.proofs.Words.{held, leaves_sized, length, NoneIs, StopsInside, ◌∙◌}
 use Rattle.decode.proofs.RefusalLaws.{hence, inside}
 use Rattle.decode.proofs.Exits.{exit}
 use Rattle.decode.proofs.parts.Tuple2ItemsValTypeBodySpelled.read.Goals as goal

@@ -1,7 +1,4 @@
-use Rattle.std.proofs.Common.{◌+◌, List, ap, sym, ◌∙◌}
-use Rattle.std.specs.List.{insert}
-use Rattle.handles.specs.declared.sorted.ListPlace.{ListPlace}
-use Rattle.handles.specs.Inner.Parts.{parts_of, part, with_part}
+use Rattle.handles.proofs.Words.{ap, insert, List, ListPlace, part, parts_of, sym, with_part, ◌+◌, ◌∙◌}
 use Rattle.handles.proofs.Parts.{in_idle, in_check, in_timers}
 use Rattle.handles.proofs.parted.Parted.insert.Goals as goal
 

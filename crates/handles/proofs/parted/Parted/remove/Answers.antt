@@ -1,7 +1,4 @@
-use Rattle.std.proofs.Common.{◌-◌, List, ap, sym, ◌∙◌}
-use Rattle.std.specs.List.{remove}
-use Rattle.handles.specs.declared.sorted.ListPlace.{ListPlace}
-use Rattle.handles.specs.Inner.Parts.{parts_of, part, with_part}
+use Rattle.handles.proofs.Words.{ap, List, ListPlace, part, parts_of, remove, sym, with_part, ◌-◌, ◌∙◌}
 use Rattle.handles.proofs.Parts.{out_of_idle, out_of_check, out_of_timers}
 use Rattle.handles.proofs.parted.Parted.remove.Goals as goal
 

@@ -1,10 +1,4 @@
-use Rattle.std.proofs.Common.{◌≤◌, Option, sym, subst, arith}
-use Rattle.limits.specs.declared.TheConstants.{MAX_HANDLES}
-use Rattle.handles.specs.declared.handle.Kind.TheVariants.{Timer, Idle, Check}
-use Rattle.handles.specs.declared.sorted.ListPlace.{ListPlace}
-use Rattle.handles.specs.Place.{with}
-use Rattle.handles.specs.Table.{place_of}
-use Rattle.handles.specs.Inner.Lists.{with_list, how_many_listed}
+use Rattle.handles.proofs.Words.{arith, Check, how_many_listed, Idle, ListPlace, MAX_HANDLES, Option, place_of, subst, sym, Timer, with, with_list, ◌≤◌}
 use Rattle.handles.proofs.Sets.{no_shorter}
 use Rattle.handles.proofs.sorted.Lists.add.Goals as goal
 

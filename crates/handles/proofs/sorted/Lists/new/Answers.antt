@@ -1,7 +1,5 @@
-use Rattle.std.proofs.Common.{◌≡◌, [], ap, sym, ◌∙◌}
-use Rattle.std.specs.FinMap.{empty, from_sorted, get-from_sorted, get-empty, same_map}
-use Rattle.handles.specs.Place.{place_cmp, set_of_sorted}
-use Rattle.handles.specs.Inner.Lists.{lists_of}
+use Rattle.handles.proofs.Words.{ap, from_sorted, lists_of, place_cmp, set_of_sorted, sym, [], ◌∙◌, ◌≡◌}
+use Rattle.std.specs.FinMap.{empty, get-from_sorted, get-empty, same_map}
 use Rattle.handles.proofs.Places.{places_total, same_place}
 use Rattle.handles.proofs.sorted.Lists.new.Goals as goal
 

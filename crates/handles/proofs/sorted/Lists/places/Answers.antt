@@ -1,6 +1,4 @@
-use Rattle.std.proofs.Common.{ap, sym, ◌∙◌}
-use Rattle.std.specs.FinMap.{keys}
-use Rattle.handles.specs.Inner.Lists.{ActiveLists, list}
+use Rattle.handles.proofs.Words.{ActiveLists, ap, keys, list, sym, ◌∙◌}
 use Rattle.handles.proofs.RisingLists.{keys_of}
 use Rattle.handles.proofs.Places.{places_total}
 use Rattle.handles.proofs.Sets.{list_of_part, part_rises}

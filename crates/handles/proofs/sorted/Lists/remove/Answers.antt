@@ -1,8 +1,5 @@
-use Rattle.std.proofs.Common.{◌≡◌, ap, sym, ◌∙◌, subst}
+use Rattle.handles.proofs.Words.{ActiveLists, ap, list, lists_of, part, PartsRise, PlaceSet, set_of_sorted, subst, sym, with_list, ◌∙◌, ◌≡◌}
 use Rattle.std.specs.FinMap as set
-use Rattle.handles.specs.Place.{PlaceSet, set_of_sorted}
-use Rattle.handles.specs.Inner.Parts.{part}
-use Rattle.handles.specs.Inner.Lists.{ActiveLists, lists_of, PartsRise, list, with_list}
 use Rattle.handles.proofs.RisingLists.{found, gap_found, rises-remove, set-remove, set-remove_absent}
 use Rattle.handles.proofs.Places.{places_total, same_place}
 use Rattle.handles.proofs.Sets.{list_of_part, part_rises, parts_rise, lists_of-with_part, with_own_list}

@@ -1,6 +1,4 @@
-use Rattle.std.proofs.Common.{◌≡◌, ◌≢◌, ℕ, ◌<◌, get_or}
-use Rattle.imports.specs.declared.entry_point.EntryPoint.{EntryPoint}
-use Rattle.imports.specs.Uv.{name_of_entry}
+use Rattle.imports.proofs.Words.{EntryPoint, get_or, name_of_entry, ℕ, ◌<◌, ◌≡◌, ◌≢◌}
 use Rattle.imports.proofs.Named.{all_entries}
 use Rattle.imports.proofs.entry_point.EntryPoint.from_name.Given as goal
 

@@ -1,6 +1,4 @@
-use Rattle.std.proofs.Common.{rules}
-use Rattle.imports.specs.declared.call.Call.TheVariants.{Now}
-use Rattle.imports.specs.Linking.{AreCalls}
+use Rattle.imports.proofs.Words.{AreCalls, Now, rules}
 use Rattle.imports.proofs.Known.{call_there, call_kept}
 use Rattle.imports.proofs.linked.Linked.imported.Goals as goal
 

@@ -1,9 +1,5 @@
-use Rattle.std.proofs.Common.{◌≡◌, ◌≤◌, length, refl, sym, ap, ◌∙◌, arith}
-use Rattle.std.proofs.lemmas.Bool.Decides.{nat_tests}
+use Rattle.interp.proofs.Words.{ap, arith, Held, held_values, length, nat_tests, refl, sym, typed_values, ◌∙◌, ◌≡◌, ◌≤◌}
 use Rattle.std.proofs.lemmas.Option.{slice_get_read}
-use Rattle.interp.specs.declared.host.Held.{Held}
-use Rattle.interp.specs.Inner.ArgumentsHeld.{held_values}
-use Rattle.interp.specs.Inner.Slots.ValuesRead.{typed_values}
 use Rattle.interp.proofs.Slots.ValuesRead.{none_past, read_at}
 use Rattle.interp.proofs.host.Args.get.Goals as goal
 

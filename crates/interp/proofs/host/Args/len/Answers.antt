@@ -1,7 +1,4 @@
-use Rattle.std.proofs.Common.{◌≤◌, List, length, sym, ap, ◌∙◌}
-use Rattle.syntax.specs.declared.types.Value.{Value}
-use Rattle.interp.specs.declared.host.Held.{Held}
-use Rattle.interp.specs.Inner.ArgumentsHeld.{held_values}
+use Rattle.interp.proofs.Words.{ap, Held, held_values, length, List, sym, Value, ◌∙◌, ◌≤◌}
 use Rattle.interp.proofs.Slots.ValuesRead.{count_read}
 use Rattle.interp.proofs.host.Args.len.Goals as goal
 

@@ -1,13 +1,6 @@
-use Rattle.std.proofs.Common.{◌≡◌, ◌≤◌, ℕ, List, Some, length, map, slice_get, sym, ap, ◌∙◌}
-use Rattle.std.proofs.lemmas.Option.{get_or_from_slice_get}
-use Rattle.syntax.specs.declared.types.Value.{Value}
+use Rattle.interp.proofs.Words.{ap, get_or_from_slice_get, Held, held_values, length, List, map, number, slice_get, Some, sym, type_of, typed_values, Value}
+use Rattle.interp.proofs.Words.{value_of, ℕ, ◌∙◌, ◌≡◌, ◌≤◌}
 use Rattle.syntax.specs.declared.types.ValType.TheVariants as valtype
-use Rattle.validate.specs.Typing.{type_of}
-use Rattle.instance.specs.Store.{value_of}
-use Rattle.engine.specs.Slots.{number}
-use Rattle.interp.specs.declared.host.Held.{Held}
-use Rattle.interp.specs.Inner.ArgumentsHeld.{held_values}
-use Rattle.interp.specs.Inner.Slots.ValuesRead.{typed_values}
 use Rattle.interp.proofs.Slots.ValuesRead.{typed_at}
 use Rattle.interp.proofs.host.Args.wide.Goals as goal
 

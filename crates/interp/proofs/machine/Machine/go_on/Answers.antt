@@ -1,10 +1,5 @@
-use Rattle.std.proofs.Common.{◌≡◌, ◌≤◌, List, length, Option, Some, None, refl, sym, ap, ◌∙◌, subst, arith}
-use Rattle.std.specs.Prelude.{IfSome}
+use Rattle.interp.proofs.Words.{ap, arith, Caller, Ended, IfSome, Last, length, List, MAX_DEPTH, None, Option, refl, Some, subst, sym, ◌∙◌, ◌≡◌, ◌≤◌}
 use Rattle.std.proofs.lemmas.Option.{IfSome_then}
-use Rattle.limits.specs.declared.TheConstants.{MAX_DEPTH}
-use Rattle.events.specs.declared.ended.Ended.{Ended}
-use Rattle.instance.specs.declared.stack.Caller.{Caller}
-use Rattle.instance.specs.declared.stack.Last.{Last}
 use Rattle.interp.proofs.OnMachines.{paused_in, take_seam}
 use Rattle.interp.proofs.machine.Machine.go_on.Goals as goal
 

@@ -1,5 +1,4 @@
-use Rattle.std.proofs.Common.{ap, ◌∙◌}
-use Rattle.events.specs.declared.ended.Ended.{Ended}
+use Rattle.order.proofs.Words.{ap, Ended, ◌∙◌}
 use Rattle.order.proofs.InSlices.{asks_for_nothing}
 use Rattle.order.proofs.machine.WorkMachine.ask.Goals as goal
 

@@ -1,12 +1,7 @@
-use Rattle.std.proofs.Common.{◌≡◌, ℕ, sym, ◌∙◌, subst}
+use Rattle.order.proofs.Words.{arc_value, Loaded, order_of, stop_of, subst, sym, WorkAnswered, ℕ, ◌∙◌, ◌≡◌}
 use Rattle.std.proofs.lemmas.Option.{IfSome_then}
-use Rattle.std.specs.Arc.{arc_value}
-use Rattle.syntax.specs.Loaded.{Loaded}
-use Rattle.instance.specs.Stops.{stop_of}
 use Rattle.interp.specs.Machines.{IsPausedOn, IsSomePausedOn}
 use Rattle.interp.specs.Slices.{RunIsOver}
-use Rattle.order.specs.Inner.WorkHosting.{WorkAnswered}
-use Rattle.order.specs.Orders.{order_of}
 use Rattle.order.proofs.WorkHostAnswers.{names_of}
 use Rattle.order.proofs.InSlices.{over_stops, over_serves, came_to}
 use Rattle.order.proofs.machine.WorkMachine.go_on.Goals as goal

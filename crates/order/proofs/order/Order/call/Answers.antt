@@ -1,9 +1,4 @@
-use Rattle.std.proofs.Common.{◌≡◌, sym, ◌∙◌, subst}
-use Rattle.std.specs.Arc.{arc_value}
-use Rattle.syntax.specs.Loaded.{Loaded}
-use Rattle.interp.specs.Lent.{ended_in}
-use Rattle.order.specs.Orders.{order_of}
-use Rattle.order.specs.Stopping.{WorkStop}
+use Rattle.order.proofs.Words.{arc_value, ended_in, Loaded, order_of, subst, sym, WorkStop, ◌∙◌, ◌≡◌}
 use Rattle.order.proofs.WorkHostAnswers.{names_of, work_stops, work_serves}
 use Rattle.order.proofs.order.Order.call.Goals as goal
 

@@ -1,13 +1,5 @@
-use Rattle.std.proofs.Common.{[], ◌∷◌, subst, arith}
-use Rattle.std.specs.Arc.{arc_value}
+use Rattle.order.proofs.Words.{arc_value, AreResults, arith, Ended, I32, order_of, subst, type_of_entry, Work, WorkStop, [], ◌∷◌}
 use Rattle.syntax.specs.declared.types.ValType.TheVariants as valtype
-use Rattle.syntax.specs.declared.types.Value.TheVariants.{I32}
-use Rattle.events.specs.declared.ended.Ended.{Ended}
-use Rattle.imports.specs.declared.entry_point.EntryPoint.TheVariants.{Work}
-use Rattle.imports.specs.Uv.{type_of_entry}
-use Rattle.reduction.specs.Running.{AreResults}
-use Rattle.order.specs.Orders.{order_of}
-use Rattle.order.specs.Stopping.{WorkStop}
 use Rattle.order.proofs.FunctionTypes.{has_type}
 use Rattle.order.proofs.InSlices.{work_takes}
 use Rattle.order.proofs.Results.{work_has_one, work_ended}

@@ -1,8 +1,5 @@
-use Rattle.std.proofs.Common.{List, ℕ, [], ◌∷◌, subst}
-use Rattle.reduction.specs.Running.{end_of_run}
+use Rattle.order.proofs.Words.{end_of, end_of_run, EndsAs, List, order_of, subst, ℕ, [], ◌∷◌}
 use Rattle.interp.specs.Lent.{ending_with}
-use Rattle.order.specs.Orders.{order_of, end_of}
-use Rattle.order.specs.Work.{EndsAs}
 use Rattle.order.proofs.WorkHostAnswers.{is_end, uses}
 use Rattle.order.proofs.WhereOrdersStop.{leaves}
 use Rattle.order.proofs.order.Order.compute.Goals as goal

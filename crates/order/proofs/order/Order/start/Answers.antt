@@ -1,9 +1,4 @@
-use Rattle.std.proofs.Common.{◌≡◌, Some, ap, ◌∙◌, arith}
-use Rattle.std.specs.Arc.{arc_value}
-use Rattle.syntax.specs.Loaded.{Loaded}
-use Rattle.validate.specs.Valid.{ValidModule}
-use Rattle.events.specs.Bare.{whole}
-use Rattle.order.specs.Orders.{order_of}
+use Rattle.order.proofs.Words.{ap, arc_value, arith, Loaded, order_of, Some, ValidModule, whole, ◌∙◌, ◌≡◌}
 use Rattle.order.proofs.InSlices.{start_takes, start_stops, start_ran}
 use Rattle.order.proofs.Results.{start_has_none, start_ended}
 use Rattle.order.proofs.order.Order.start.Goals as goal

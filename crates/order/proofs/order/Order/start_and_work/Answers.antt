@@ -1,12 +1,4 @@
-use Rattle.std.proofs.Common.{[], ◌∷◌, ap, ◌∙◌, subst}
-use Rattle.syntax.specs.declared.types.Value.TheVariants.{I32}
-use Rattle.events.specs.Bare.{whole, whole_ending}
-use Rattle.events.specs.declared.ended.BareEnding.{BareEnding}
-use Rattle.events.specs.declared.ended.Ending.{Ending}
-use Rattle.reduction.specs.Running.{end_of_run}
-use Rattle.interp.specs.Lent.{ended_with}
-use Rattle.order.specs.Orders.{order_of}
-use Rattle.order.specs.Work.{EndsAs}
+use Rattle.order.proofs.Words.{ap, BareEnding, end_of_run, ended_with, Ending, EndsAs, I32, order_of, subst, whole, whole_ending, [], ◌∙◌, ◌∷◌}
 use Rattle.interp.proofs.CountsOfResults.{without_results, none_with}
 use Rattle.order.proofs.Results.{not_whole}
 use Rattle.order.proofs.WorkHostAnswers.{stops_end, works_end}

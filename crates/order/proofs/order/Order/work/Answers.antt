@@ -1,8 +1,4 @@
-use Rattle.std.proofs.Common.{◌≡◌, Some, subst}
-use Rattle.syntax.specs.Loaded.{Loaded}
-use Rattle.imports.specs.declared.entry_point.EntryPoint.TheVariants.{Work}
-use Rattle.imports.specs.Uv.{type_of_entry}
-use Rattle.validate.specs.Typing.{type_of_function}
+use Rattle.order.proofs.Words.{Loaded, Some, subst, type_of_entry, type_of_function, Work, ◌≡◌}
 use Rattle.order.proofs.order.Order.work.Goals as goal
 
 pub call_work-requires-clause-typed : goal.call_work-requires-clause-typed

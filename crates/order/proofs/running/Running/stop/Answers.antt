@@ -1,11 +1,7 @@
-use Rattle.std.proofs.Common.{◌≡◌, ◌+◌, Option, sym, ap, ◌∙◌, subst}
+use Rattle.order.proofs.Words.{ap, Halt, IsAtStage, IsStarting, IsWorking, Option, order_of, RunStage, stop_of, subst, sym, used_in_stage, ◌+◌, ◌∙◌, ◌≡◌}
 use Rattle.std.specs.Prelude.{IsSome}
-use Rattle.instance.specs.Stops.{Halt, stop_of}
-use Rattle.order.specs.Orders.{order_of}
 use Rattle.order.specs.Slices.{OrderStandsAt}
 use Rattle.order.specs.Underway.{Underway}
-use Rattle.order.specs.Inner.Going.{IsStarting, IsWorking, IsAtStage, used_in_stage}
-use Rattle.order.specs.declared.stage.RunStage.{RunStage}
 use Rattle.order.proofs.Standing.{starting_stands, starting_within, working_stands, working_within}
 use Rattle.order.proofs.running.Running.stop.Goals as goal
 

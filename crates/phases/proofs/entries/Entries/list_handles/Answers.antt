@@ -1,6 +1,4 @@
-use Rattle.std.proofs.Common.{◌∙◌}
-use Rattle.handles.specs.Table.{entry}
-use Rattle.phases.specs.PhaseList.{handle_entry}
+use Rattle.phases.proofs.Words.{entry, handle_entry, ◌∙◌}
 use Rattle.phases.proofs.Lists.{mapped_twice}
 use Rattle.phases.proofs.entries.Entries.list_handles.Goals as goal
 

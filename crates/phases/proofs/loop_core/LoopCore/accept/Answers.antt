@@ -1,12 +1,4 @@
-use Rattle.std.specs.Arc.{arc_value}
-use Rattle.order.specs.Orders.{order_of, end_of}
-use Rattle.phases.specs.Host.{with_requests}
-use Rattle.phases.specs.Keeping.{KeepsLoop}
-use Rattle.phases.specs.Outside.{answered}
-use Rattle.phases.specs.Requests.{Answered}
-use Rattle.phases.specs.Settings.{setting_of}
-use Rattle.phases.specs.State.{State}
-use Rattle.phases.specs.View.{AreOpenedUpTo}
+use Rattle.phases.proofs.Words.{Answered, answered, arc_value, AreOpenedUpTo, end_of, KeepsLoop, order_of, setting_of, State, with_requests}
 use Rattle.phases.proofs.LoopsKeep.{by_reply, kept_on}
 use Rattle.phases.proofs.OwnerCallsKeepListed.{grows_answered}
 use Rattle.phases.proofs.Runnable.{staged_orders}

@@ -1,6 +1,4 @@
-use Rattle.std.proofs.Common.{[], sym, ap, ◌∙◌, subst}
-use Rattle.phases.specs.State.{Setting, Core}
-use Rattle.phases.specs.Step.{RanNone}
+use Rattle.phases.proofs.Words.{ap, Core, RanNone, Setting, subst, sym, [], ◌∙◌}
 use Rattle.phases.proofs.loop_core.LoopCore.begin_step.Goals as goal
 
 pub call_back-requires-clause-runs : goal.call_back-requires-clause-runs

@@ -1,9 +1,5 @@
-use Rattle.std.proofs.Common.{refl, sym, ap, ◌∙◌}
-use Rattle.std.specs.Arc.{arc_value}
-use Rattle.std.specs.Option.{option_map}
+use Rattle.phases.proofs.Words.{ap, arc_value, Loop, option_map, refl, setting_of, State, sym, ◌∙◌}
 use Rattle.events.specs.Bare.{whole}
-use Rattle.phases.specs.Settings.{setting_of}
-use Rattle.phases.specs.State.{State, Loop}
 use Rattle.phases.proofs.LoopsKeep.{still_upto, names_of, runs_from, kept_after, same_setting}
 use Rattle.phases.proofs.StopsOfCallbacks.{stops_at}
 use Rattle.phases.proofs.loop_core.LoopCore.call.Goals as goal

@@ -1,12 +1,4 @@
-use Rattle.std.proofs.Common.{◌≡◌, refl, sym, ap, ◌∙◌}
-use Rattle.std.specs.Arc.{arc_value}
-use Rattle.std.specs.Option.{option_map}
-use Rattle.reduction.specs.Hosting.{Names}
-use Rattle.order.specs.ImportTypes.{import_types}
-use Rattle.phases.specs.Settings.{setting_of}
-use Rattle.phases.specs.Step.{begun}
-use Rattle.phases.specs.State.{Setting, State}
-use Rattle.phases.specs.Underway.{Host}
+use Rattle.phases.proofs.Words.{ap, arc_value, begun, Host, import_types, Names, option_map, refl, Setting, setting_of, State, sym, ◌∙◌, ◌≡◌}
 use Rattle.phases.proofs.LoopsKeep.{still_upto}
 use Rattle.phases.proofs.StepsInSlices.{begins_callback, is_defined}
 use Rattle.phases.proofs.loop_core.LoopCore.call_back.Goals as goal

@@ -1,6 +1,4 @@
-use Rattle.std.specs.Arc.{arc_value}
-use Rattle.phases.specs.Settings.{setting_of}
-use Rattle.phases.specs.State.{State}
+use Rattle.phases.proofs.Words.{arc_value, setting_of, State}
 use Rattle.phases.proofs.LoopsKeep.{cancel_upto, cancel_orders, kept_on}
 use Rattle.phases.proofs.OwnerCallsKeepListed.{grows_cancel}
 use Rattle.phases.proofs.loop_core.LoopCore.cancel_number.Goals as goal

@@ -1,6 +1,4 @@
-use Rattle.std.specs.Arc.{arc_value}
-use Rattle.phases.specs.Outside.{after_clock}
-use Rattle.phases.specs.Settings.{setting_of}
+use Rattle.phases.proofs.Words.{after_clock, arc_value, setting_of}
 use Rattle.phases.proofs.LoopsKeep.{still_upto, kept_on}
 use Rattle.phases.proofs.OwnerCallsKeepListed.{grows_clock}
 use Rattle.phases.proofs.loop_core.LoopCore.clock.Goals as goal

@@ -1,11 +1,4 @@
-use Rattle.std.proofs.Common.{refl, sym, subst, ap, drop, ◌∙◌, []}
-use Rattle.std.specs.Arc.{arc_value}
-use Rattle.phases.specs.Bare.{whole_did}
-use Rattle.phases.specs.Keeping.{AreOrdersOf}
-use Rattle.phases.specs.Roster.{Roster}
-use Rattle.phases.specs.Settings.{setting_of}
-use Rattle.phases.specs.State.{State, Loop}
-use Rattle.phases.specs.Step.{ListStep}
+use Rattle.phases.proofs.Words.{ap, arc_value, AreOrdersOf, drop, ListStep, Loop, refl, Roster, setting_of, State, subst, sym, whole_did, [], ◌∙◌}
 use Rattle.phases.proofs.LoopsKeep.{still_upto, kept_with, turn_leaves, front_of, no_front}
 use Rattle.phases.proofs.ListedStaysReady.{ready_front, ready_rest, spared_rest}
 use Rattle.phases.proofs.loop_core.LoopCore.go_on.Goals as goal

@@ -1,9 +1,4 @@
-use Rattle.std.proofs.Common.{sym, ap, ◌∙◌}
-use Rattle.std.specs.Arc.{arc_value}
-use Rattle.syntax.specs.Loaded.{Loaded}
-use Rattle.phases.specs.PhaseList.{begin_list}
-use Rattle.phases.specs.Roster.{opening_roster}
-use Rattle.phases.specs.State.{opening}
+use Rattle.phases.proofs.Words.{ap, arc_value, begin_list, Loaded, opening, opening_roster, sym, ◌∙◌}
 use Rattle.phases.proofs.LoopsKeep.{kept_new}
 use Rattle.phases.proofs.loop_core.LoopCore.new.Goals as goal
 

@@ -1,10 +1,4 @@
-use Rattle.std.proofs.Common.{sym, ◌≡◌, ◌<◌}
-use Rattle.limits.specs.declared.TheConstants.{MAX_REQUESTS}
-use Rattle.order.specs.Orders.{order_of}
-use Rattle.std.specs.Arc.{arc_value}
-use Rattle.order.specs.Runnable.{CanRun}
-use Rattle.phases.specs.Settings.{setting_of}
-use Rattle.phases.specs.View.{AreOpenedUpTo}
+use Rattle.phases.proofs.Words.{arc_value, AreOpenedUpTo, CanRun, MAX_REQUESTS, order_of, setting_of, sym, ◌<◌, ◌≡◌}
 use Rattle.phases.proofs.LoopsKeep.{kept_on, own_order, own_of}
 use Rattle.phases.proofs.Runnable.{next_orders, next_last}
 use Rattle.phases.proofs.loop_core.LoopCore.next_order.Goals as goal

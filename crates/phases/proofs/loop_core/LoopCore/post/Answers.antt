@@ -1,5 +1,4 @@
-use Rattle.std.proofs.Common.{ap}
-use Rattle.phases.specs.View.{View}
+use Rattle.phases.proofs.Words.{ap, View}
 use Rattle.phases.proofs.GuestCallsKeep.{upto_view}
 use Rattle.phases.proofs.loop_core.LoopCore.post.Goals as goal
 

@@ -1,9 +1,5 @@
-use Rattle.std.proofs.Common.{sym, ◌≡◌, [], ◌∷◌, Some}
-use Rattle.syntax.specs.declared.types.Value.TheVariants.{I32}
+use Rattle.phases.proofs.Words.{async_handle, I32, Loop, setting_of, Some, sym, [], ◌∷◌, ◌≡◌}
 use Rattle.events.specs.declared.phase.EntryKind.TheVariants.{Async}
-use Rattle.phases.specs.Settings.{setting_of}
-use Rattle.phases.specs.Roster.{async_handle}
-use Rattle.phases.specs.State.{Loop}
 use Rattle.phases.proofs.EntriesPrepared.{async_step, async_none, async_skipped}
 use Rattle.phases.proofs.GuestCallsKeep.{taken_upto}
 use Rattle.phases.proofs.LoopsKeep.{handle_takes, handle_bare, same_some}

@@ -1,11 +1,5 @@
-use Rattle.std.proofs.Common.{refl, [], ◌∷◌}
-use Rattle.std.specs.Arc.{arc_value}
-use Rattle.syntax.specs.declared.types.Value.TheVariants.{I32}
+use Rattle.phases.proofs.Words.{arc_value, I32, Loop, refl, setting_of, State, with_roster, without_handle, [], ◌∷◌}
 use Rattle.events.specs.declared.phase.EntryKind.TheVariants.{Close}
-use Rattle.phases.specs.Host.{with_roster}
-use Rattle.phases.specs.Settings.{setting_of}
-use Rattle.phases.specs.Roster.{without_handle}
-use Rattle.phases.specs.State.{State, Loop}
 use Rattle.phases.proofs.EntriesPrepared.{close_step}
 use Rattle.phases.proofs.LoopsKeep.{still_upto, handle_takes, handle_bare, kept_with}
 use Rattle.phases.proofs.ListedStaysReady.{ready_without_handle}

@@ -1,13 +1,5 @@
-use Rattle.std.proofs.Common.{refl, sym, subst, ap, drop, ◌∙◌, List, []}
-use Rattle.std.specs.Arc.{arc_value}
-use Rattle.phases.specs.Bare.{whole_did}
-use Rattle.phases.specs.Keeping.{AreOrdersOf}
-use Rattle.phases.specs.Inner.Preparing.{Prepares}
-use Rattle.phases.specs.Roster.{Roster}
-use Rattle.phases.specs.Settings.{setting_of}
-use Rattle.phases.specs.State.{State, Loop}
-use Rattle.phases.specs.Step.{ListStep, RanNone}
-use Rattle.phases.specs.declared.entry.Entry.{Entry}
+use Rattle.phases.proofs.Words.{ap, arc_value, AreOrdersOf, drop, Entry, List, ListStep, Loop, Prepares, RanNone, refl, Roster, setting_of, State, subst, sym}
+use Rattle.phases.proofs.Words.{whole_did, [], ◌∙◌}
 use Rattle.phases.proofs.LoopsKeep.{still_upto, kept_with, turn_leaves, front_of, no_front}
 use Rattle.phases.proofs.Prepared.{turn_ran_none}
 use Rattle.phases.proofs.ListedStaysReady.{ready_front, ready_rest, spared_rest}

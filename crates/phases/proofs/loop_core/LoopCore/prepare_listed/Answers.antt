@@ -1,7 +1,4 @@
-use Rattle.std.proofs.Common.{[], ◌∷◌}
-use Rattle.syntax.specs.declared.types.Value.TheVariants.{I32}
-use Rattle.phases.specs.Settings.{setting_of}
-use Rattle.phases.specs.State.{Loop}
+use Rattle.phases.proofs.Words.{I32, Loop, setting_of, [], ◌∷◌}
 use Rattle.phases.proofs.EntriesPrepared.{listed_step}
 use Rattle.phases.proofs.LoopsKeep.{handle_takes, handle_bare}
 use Rattle.phases.proofs.Prepared.{fits}

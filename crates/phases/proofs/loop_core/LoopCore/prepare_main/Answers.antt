@@ -1,10 +1,5 @@
-use Rattle.std.proofs.Common.{refl, ◌∙◌, []}
-use Rattle.std.specs.Arc.{arc_value}
+use Rattle.phases.proofs.Words.{arc_value, Loop, Main, name_of_entry, refl, setting_of, type_of_entry, [], ◌∙◌}
 use Rattle.events.specs.declared.phase.EntryKind.TheVariants as kind
-use Rattle.imports.specs.declared.entry_point.EntryPoint.TheVariants.{Main}
-use Rattle.imports.specs.Uv.{name_of_entry, type_of_entry}
-use Rattle.phases.specs.Settings.{setting_of}
-use Rattle.phases.specs.State.{Loop}
 use Rattle.phases.proofs.EntriesPrepared.{main_step}
 use Rattle.phases.proofs.LoopsKeep.{takes, gives_nothing, not_missing}
 use Rattle.phases.proofs.Prepared.{fits}

@@ -1,13 +1,5 @@
-use Rattle.std.proofs.Common.{sym}
-use Rattle.std.specs.Arc.{arc_value}
-use Rattle.handles.specs.Table.{after_again}
-use Rattle.phases.specs.Host.{with_roster}
-use Rattle.phases.specs.Settings.{setting_of}
-use Rattle.phases.specs.Roster.{with_handles}
-use Rattle.phases.specs.State.{State, Loop}
+use Rattle.phases.proofs.Words.{after_again, arc_value, I32, Loop, setting_of, State, sym, with_handles, with_roster, [], ◌∷◌}
 use Rattle.events.specs.declared.phase.EntryKind.TheVariants.{Timer}
-use Rattle.std.proofs.Common.{[], ◌∷◌}
-use Rattle.syntax.specs.declared.types.Value.TheVariants.{I32}
 use Rattle.phases.proofs.EntriesPrepared.{timer_step}
 use Rattle.phases.proofs.ListedStaysReady.{grows_again}
 use Rattle.phases.proofs.LoopsKeep.{handle_takes, handle_bare, kept_on}

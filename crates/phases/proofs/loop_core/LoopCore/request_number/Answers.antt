@@ -1,7 +1,4 @@
-use Rattle.std.proofs.Common.{◌∙◌}
-use Rattle.std.specs.Arc.{arc_value}
-use Rattle.phases.specs.Settings.{setting_of}
-use Rattle.phases.specs.State.{State}
+use Rattle.phases.proofs.Words.{arc_value, setting_of, State, ◌∙◌}
 use Rattle.phases.proofs.LoopsKeep.{kept_on}
 use Rattle.phases.proofs.OwnersRequests.{request_grows, request_upto, request_orders}
 use Rattle.phases.proofs.loop_core.LoopCore.request_number.Goals as goal

@@ -1,14 +1,6 @@
-use Rattle.std.proofs.Common.{refl, ◌∙◌}
-use Rattle.std.specs.Arc.{arc_value}
+use Rattle.phases.proofs.Words.{AfterWork, arc_value, completion_in, Loop, name_of_entry, refl, request_of, setting_of, State, type_of_entry, whole_did}
+use Rattle.phases.proofs.Words.{with_requests, without_request, ◌∙◌}
 use Rattle.imports.specs.declared.entry_point.EntryPoint.TheVariants.{AfterWork as AfterWorkExport}
-use Rattle.imports.specs.Uv.{name_of_entry, type_of_entry}
-use Rattle.phases.specs.Settings.{setting_of}
-use Rattle.phases.specs.Host.{with_requests}
-use Rattle.phases.specs.Bare.{whole_did}
-use Rattle.phases.specs.Inner.Stage.{completion_in}
-use Rattle.phases.specs.Requests.{request_of, without_request}
-use Rattle.phases.specs.State.{State, Loop}
-use Rattle.phases.specs.Step.{AfterWork}
 use Rattle.phases.proofs.LoopsKeep.{still_upto, takes, gives_nothing, not_missing, kept_with, told_of}
 use Rattle.phases.proofs.ListedStaysReady.{ready_without_request}
 use Rattle.phases.proofs.Runnable.{request_heard, other_orders}

@@ -1,12 +1,6 @@
-use Rattle.std.proofs.Common.{refl, sym, ◌≡◌, [], ◌∷◌, Some, None}
-use Rattle.syntax.specs.declared.types.Value.TheVariants.{I32}
+use Rattle.phases.proofs.Words.{async_handle, CallsHandle, handle_function, I32, is_active_handle, Loop, None, refl, RunsFrom, setting_of, sharing, Skips, Some}
+use Rattle.phases.proofs.Words.{sym, TakesFirst, whole_did, [], ◌∷◌, ◌≡◌}
 use Rattle.events.specs.declared.phase.EntryKind.TheVariants.{Async}
-use Rattle.phases.specs.PhaseList.{is_active_handle}
-use Rattle.phases.specs.Roster.{async_handle}
-use Rattle.phases.specs.Bare.{whole_did}
-use Rattle.phases.specs.Settings.{setting_of}
-use Rattle.phases.specs.State.{Loop}
-use Rattle.phases.specs.Step.{TakesFirst, Skips, CallsHandle, RunsFrom, handle_function, sharing}
 use Rattle.phases.proofs.GuestCallsKeep.{taken_upto}
 use Rattle.phases.proofs.LoopsKeep.{handle_takes, handle_bare, active_step, none_taken, some_taken, called, same_some}
 use Rattle.phases.proofs.loop_core.LoopCore.run_async.Goals as goal

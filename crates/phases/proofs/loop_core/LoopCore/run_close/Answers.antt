@@ -1,9 +1,4 @@
-use Rattle.std.proofs.Common.{refl}
-use Rattle.std.specs.Arc.{arc_value}
-use Rattle.phases.specs.Host.{with_roster}
-use Rattle.phases.specs.Roster.{without_handle}
-use Rattle.phases.specs.Settings.{setting_of}
-use Rattle.phases.specs.State.{State}
+use Rattle.phases.proofs.Words.{arc_value, refl, setting_of, State, with_roster, without_handle}
 use Rattle.phases.proofs.LoopsKeep.{still_upto, handle_takes, handle_bare, kept_with}
 use Rattle.phases.proofs.ListedStaysReady.{ready_without_handle}
 use Rattle.phases.proofs.loop_core.LoopCore.run_close.Goals as goal

@@ -1,9 +1,4 @@
-use Rattle.std.proofs.Common.{refl, ◌∙◌}
-use Rattle.std.specs.Arc.{arc_value}
-use Rattle.imports.specs.declared.entry_point.EntryPoint.TheVariants.{Main}
-use Rattle.imports.specs.Uv.{name_of_entry, type_of_entry}
-use Rattle.phases.specs.Settings.{setting_of}
-use Rattle.std.proofs.Common.{[]}
+use Rattle.phases.proofs.Words.{arc_value, Main, name_of_entry, refl, setting_of, type_of_entry, [], ◌∙◌}
 use Rattle.phases.proofs.LoopsKeep.{takes, gives_nothing, not_missing}
 use Rattle.phases.proofs.loop_core.LoopCore.run_main.Goals as goal
 

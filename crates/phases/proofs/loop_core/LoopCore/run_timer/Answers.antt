@@ -1,10 +1,4 @@
-use Rattle.std.proofs.Common.{sym}
-use Rattle.std.specs.Arc.{arc_value}
-use Rattle.handles.specs.Table.{after_again}
-use Rattle.phases.specs.Host.{with_roster}
-use Rattle.phases.specs.Roster.{with_handles}
-use Rattle.phases.specs.Settings.{setting_of}
-use Rattle.phases.specs.State.{State}
+use Rattle.phases.proofs.Words.{after_again, arc_value, setting_of, State, sym, with_handles, with_roster}
 use Rattle.phases.proofs.LoopsKeep.{handle_takes, handle_bare, kept_on}
 use Rattle.phases.proofs.ListedStaysReady.{grows_again}
 use Rattle.phases.proofs.loop_core.LoopCore.run_timer.Goals as goal

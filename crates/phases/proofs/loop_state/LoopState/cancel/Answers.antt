@@ -1,7 +1,5 @@
-use Rattle.std.proofs.Common.{refl}
-use Rattle.phases.specs.State.{State}
+use Rattle.phases.proofs.Words.{refl, State, with_requests}
 use Rattle.phases.specs.contracts.loop_state.LoopState.{the_view}
-use Rattle.phases.specs.Host.{with_requests}
 use Rattle.phases.proofs.LoopsKeep.{cancel_unfailed}
 use Rattle.phases.proofs.loop_state.LoopState.cancel.Goals as goal
 

@@ -1,7 +1,4 @@
-use Rattle.std.proofs.Common.{sym, subst, ap, ◌∙◌}
-use Rattle.phases.specs.Host.{with_requests}
-use Rattle.phases.specs.Ready.{Grows}
-use Rattle.phases.specs.State.{State}
+use Rattle.phases.proofs.Words.{ap, Grows, State, subst, sym, with_requests, ◌∙◌}
 use Rattle.phases.specs.contracts.loop_state.LoopState.{the_view}
 use Rattle.phases.proofs.LoopsKeep.{next_unfailed}
 use Rattle.phases.proofs.Lowest.{lowest_next, number_next}

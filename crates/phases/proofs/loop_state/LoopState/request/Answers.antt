@@ -1,8 +1,5 @@
-use Rattle.std.proofs.Common.{refl, sym}
-use Rattle.phases.specs.State.{State}
+use Rattle.phases.proofs.Words.{refl, setting_of, State, sym, with_requests}
 use Rattle.phases.specs.contracts.loop_state.LoopState.{the_view}
-use Rattle.phases.specs.Host.{with_requests}
-use Rattle.phases.specs.Settings.{setting_of}
 use Rattle.phases.proofs.OwnersRequests.{request_running}
 use Rattle.phases.proofs.loop_state.LoopState.request.Goals as goal
 

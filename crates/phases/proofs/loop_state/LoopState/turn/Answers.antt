@@ -1,5 +1,4 @@
-use Rattle.std.proofs.Common.{sym, subst}
-use Rattle.phases.specs.Ready.{AreReady}
+use Rattle.phases.proofs.Words.{AreReady, subst, sym}
 use Rattle.phases.proofs.PhaseListsAreReady.{ready_entered}
 use Rattle.phases.proofs.loop_state.LoopState.turn.Goals as goal
 

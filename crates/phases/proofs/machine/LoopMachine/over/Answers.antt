@@ -1,8 +1,4 @@
-use Rattle.std.proofs.Common.{sym, ap, ◌∙◌}
-use Rattle.std.specs.Arc.{arc_value}
-use Rattle.events.specs.declared.ended.Ended.{Ended}
-use Rattle.instance.specs.Stops.{stop_of}
-use Rattle.phases.specs.Step.{finished}
+use Rattle.phases.proofs.Words.{ap, arc_value, Ended, finished, stop_of, sym, ◌∙◌}
 use Rattle.phases.proofs.CallbacksEnd.{whole_is, over_setting, over_stops, over_keeps, over_runs}
 use Rattle.phases.proofs.LoopsKeep.{still_upto}
 use Rattle.phases.proofs.machine.LoopMachine.over.Goals as goal

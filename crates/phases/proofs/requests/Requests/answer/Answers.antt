@@ -1,7 +1,5 @@
-use Rattle.std.proofs.Common.{◌≡◌, sym, ap, ◌∙◌, refl, true, Some, map, set, List}
-use Rattle.std.specs.List.{find}
-use Rattle.std.proofs.lemmas.Bool.{eqb-true}
-use Rattle.phases.specs.Requests.{Request, Requests, has_number, Answered}
+use Rattle.phases.proofs.Words.{Answered, ap, end_of, eqb-true, find, has_number, in_stage, is_settled, IsOneOf, List, map, order_of, refl, Request, Requests}
+use Rattle.phases.proofs.Words.{set, Some, sym, true, ◌∙◌, ◌≡◌}
 use Rattle.phases.proofs.RequestsRise.{Staged, staged_there, same_item}
 use Rattle.phases.proofs.requests.Requests.answer.Goals as goal
 use Rattle.phases.proofs.requests.Requests.answer.Goals.{then-is_settled-via-then-is_settled, then-is_settled-via-else-is_settled+then-not-is_for}
@@ -9,9 +7,6 @@ use Rattle.std.specs.Vec.{with_item}
 use Rattle.std.proofs.lemmas.List.{set-get_or}
 use Rattle.phases.specs.declared.requests.Requests.TheInside.{Inside}
 use Rattle.phases.specs.contracts.requests.Requests.{the_view}
-use Rattle.phases.specs.Requests.{in_stage, is_settled}
-use Rattle.order.specs.Orders.{order_of, end_of}
-use Rattle.phases.specs.Outside.{IsOneOf}
 
 there : (c : goal.After-self-2-1) → Staged c.self.inside.items.items c.self.inside.last (has_number c.args.reply.order.request) c.in-Some.at
     c.index_mut-item.result.now c.answer.new.self (Answered (end_of c.args.reply.outcome))

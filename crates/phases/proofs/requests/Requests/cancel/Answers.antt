@@ -1,9 +1,6 @@
-use Rattle.std.proofs.Common.{refl, sym, ap, ◌∙◌, true, map, List}
-use Rattle.std.proofs.lemmas.Bool.{eqb-true}
-use Rattle.order.specs.declared.uv.answers.TheConstants.{BUSY, INVALID}
-use Rattle.phases.specs.declared.stage.CancelState.TheVariants.{Unknown, Pending}
+use Rattle.phases.proofs.Words.{ap, BUSY, Cancelled, eqb-true, has_number, in_stage, INVALID, List, map, Pending, refl, Request, Requests, sym, true, Unknown}
+use Rattle.phases.proofs.Words.{◌∙◌}
 use Rattle.phases.specs.declared.stage.CancelState.TheVariants as cancel_state
-use Rattle.phases.specs.Requests.{Request, Requests, Cancelled, has_number, in_stage}
 use Rattle.phases.proofs.FoundCancels.{cancels_found}
 use Rattle.phases.proofs.RequestsRise.{staged_there, same_item}
 use Rattle.phases.proofs.requests.Requests.cancel.Goals as goal

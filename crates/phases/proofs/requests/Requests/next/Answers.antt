@@ -1,13 +1,7 @@
-use Rattle.std.proofs.Common.{◌≡◌, Bool, ap, Some, None, Option, List}
-use Rattle.std.specs.List.{find, slice_get}
-use Rattle.phases.specs.Requests.{Request, Requests, is_open_stage, HandedOut}
+use Rattle.phases.proofs.Words.{ap, Bool, find, HandedOut, is_open_stage, List, MatchOption, None, Option, option_map, Order, order_of, Request, Requests}
+use Rattle.phases.proofs.Words.{slice_get, Some, WorkOrder, ◌≡◌}
 use Rattle.phases.proofs.RequestsRise.{Staged, staged_there, same_item, found_passes}
 use Rattle.phases.proofs.requests.Requests.next.Goals as goal
-use Rattle.std.proofs.Common.{MatchOption}
-use Rattle.std.specs.Option.{option_map}
-use Rattle.order.specs.declared.order.Order.{Order}
-use Rattle.order.specs.Work.{WorkOrder}
-use Rattle.order.specs.Orders.{order_of}
 
 abbrev test : Request → Bool
 test r = is_open_stage r.stage

@@ -1,9 +1,6 @@
-use Rattle.std.proofs.Common.{◌≡◌, ◌<◌, length}
-use Rattle.limits.specs.declared.TheConstants.{MAX_REQUESTS, MAX_REQUEST_NUMBER}
+use Rattle.phases.proofs.Words.{length, MAX_REQUEST_NUMBER, MAX_REQUESTS, order_of, ◌+◌, ◌<◌, ◌≡◌, ◌≤◌}
 use Rattle.phases.proofs.RequestsRise.{kept_open}
 use Rattle.phases.proofs.requests.Requests.open.Goals as goal
-use Rattle.std.proofs.Common.{◌+◌, ◌≤◌}
-use Rattle.order.specs.Orders.{order_of}
 
 pub invariant_of-self-2 : goal.invariant_of-self-2
 invariant_of-self-2 c =

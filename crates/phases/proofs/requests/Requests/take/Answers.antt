@@ -1,10 +1,6 @@
-use Rattle.std.proofs.Common.{ap, ◌∙◌, filter, List}
-use Rattle.std.proofs.lemmas.Bool.{eqb-true}
-use Rattle.phases.specs.Requests.{Request, Requests, has_number}
-use Rattle.phases.specs.Inner.Stage.{completion_in}
+use Rattle.phases.proofs.Words.{ap, completion_in, eqb-true, filter, has_number, List, not, Request, Requests, ◌∙◌}
 use Rattle.phases.proofs.RequestsRise.{Removed, removed_there, short_completion}
 use Rattle.phases.proofs.requests.Requests.take.Goals as goal
-use Rattle.std.proofs.Common.{not}
 
 there : (c : goal.After-into_completion) → Removed c.self.inside.items.items c.self.inside.last (has_number c.args.number) c.in-Some.at c.remove.result
 there c =

@@ -1,5 +1,4 @@
-use Rattle.std.proofs.Common.{sym, ◌∙◌, arith}
-use Rattle.phases.specs.contracts.roster.Roster.{the_view}
+use Rattle.phases.proofs.Words.{arith, sym, the_view, ◌∙◌}
 use Rattle.phases.proofs.RosterKeeps.{kept_close, closing_room}
 use Rattle.phases.proofs.roster.Roster.close.Goals as goal
 

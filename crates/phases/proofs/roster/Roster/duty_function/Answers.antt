@@ -1,6 +1,4 @@
-use Rattle.std.proofs.Common.{◌≡◌, None, sym, ap, ◌∙◌, true, false}
-use Rattle.std.specs.Option.{is_some}
-use Rattle.phases.specs.Roster.{callback_function}
+use Rattle.phases.proofs.Words.{ap, callback_function, false, is_some, None, sym, true, ◌∙◌, ◌≡◌}
 use Rattle.phases.proofs.roster.Roster.duty_function.Goals as goal
 
 pub unreachable-requires : goal.unreachable-requires

@@ -1,5 +1,4 @@
-use Rattle.std.proofs.Common.{ap, ◌∙◌}
-use Rattle.phases.specs.Roster.{Roster}
+use Rattle.phases.proofs.Words.{ap, Roster, ◌∙◌}
 use Rattle.phases.proofs.ActiveAsyncs.{active_here, active_none}
 use Rattle.phases.proofs.roster.Roster.has_active_async.Goals as goal
 

@@ -1,6 +1,4 @@
-use Rattle.std.proofs.Common.{◌≡◌, false, take}
-use Rattle.std.specs.List.{list_any}
-use Rattle.phases.specs.PhaseList.{is_active_handle}
+use Rattle.phases.proofs.Words.{false, is_active_handle, list_any, take, ◌≡◌}
 use Rattle.phases.proofs.roster.Roster.has_active_async.Given as goal
 
 abbrev pub invariant-loop-handle : goal.invariant-loop-handle

@@ -1,7 +1,5 @@
-use Rattle.std.proofs.Common.{◌≡◌}
+use Rattle.phases.proofs.Words.{MAX_HANDLES, the_view, ◌≡◌}
 use Rattle.std.specs.FinMap as finite
-use Rattle.limits.specs.declared.TheConstants.{MAX_HANDLES}
-use Rattle.phases.specs.contracts.roster.Roster.{the_view}
 use Rattle.phases.proofs.RosterKeeps.{kept_made}
 use Rattle.phases.proofs.roster.Roster.init.Goals as goal
 

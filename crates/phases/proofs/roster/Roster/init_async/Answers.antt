@@ -1,7 +1,5 @@
-use Rattle.std.proofs.Common.{◌≡◌, sym, ◌∙◌}
+use Rattle.phases.proofs.Words.{MAX_HANDLES, sym, the_view, ◌∙◌, ◌≡◌}
 use Rattle.std.specs.FinMap as finite
-use Rattle.limits.specs.declared.TheConstants.{MAX_HANDLES}
-use Rattle.phases.specs.contracts.roster.Roster.{the_view}
 use Rattle.phases.proofs.RosterKeeps.{kept_async, made_async_open}
 use Rattle.phases.proofs.roster.Roster.init_async.Goals as goal
 

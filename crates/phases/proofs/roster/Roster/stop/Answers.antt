@@ -1,5 +1,4 @@
-use Rattle.std.proofs.Common.{sym}
-use Rattle.phases.specs.contracts.roster.Roster.{the_view}
+use Rattle.phases.proofs.Words.{sym, the_view}
 use Rattle.phases.proofs.RosterKeeps.{kept_stop}
 use Rattle.phases.proofs.roster.Roster.stop.Goals as goal
 

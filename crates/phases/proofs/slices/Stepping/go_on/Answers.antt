@@ -1,15 +1,8 @@
-use Rattle.std.proofs.Common.{◌≡◌, sym, ap, ◌∙◌, subst}
-use Rattle.std.specs.Arc.{arc_value}
-use Rattle.syntax.specs.Loaded.{Loaded}
-use Rattle.instance.specs.Stops.{stop_of}
-use Rattle.events.specs.declared.did.StepDid.{StepDid}
-use Rattle.interp.specs.Slices.{RunIsPaused, RunIsOver}
-use Rattle.phases.specs.Bare.{whole_did}
+use Rattle.phases.proofs.Words.{ap, arc_value, Loaded, moves, RunIsOver, RunIsPaused, StepDid, StepsWith, stop_of, subst, sym, whole_did, ◌∙◌, ◌≡◌}
 use Rattle.phases.specs.Inner.Ended.{CallbackHasEnded}
 use Rattle.phases.specs.Inner.Underway.{LoopMachineFits, step_in_slices}
 use Rattle.phases.specs.Slices.{StepIsOver, StepIsPaused}
-use Rattle.phases.specs.Step.{StepsWith}
-use Rattle.phases.specs.Underway.{StepInSlices, moves}
+use Rattle.phases.specs.Underway.{StepInSlices}
 use Rattle.phases.proofs.StepsInSlices.{first, here, leads_over, further, comes_further, ended_bare}
 use Rattle.phases.proofs.slices.Stepping.go_on.Goals as goal
 

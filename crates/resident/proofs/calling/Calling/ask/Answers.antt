@@ -1,5 +1,4 @@
-use Rattle.std.proofs.Common.{refl, sym, ap, ◌∙◌}
-use Rattle.resident.specs.Underway.{CallUnderway}
+use Rattle.resident.proofs.Words.{ap, CallUnderway, refl, sym, ◌∙◌}
 use Rattle.resident.proofs.SlicesAreOneCall.{import_over}
 use Rattle.resident.proofs.calling.Calling.ask.Goals as goal
 

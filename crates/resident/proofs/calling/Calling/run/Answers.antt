@@ -1,8 +1,4 @@
-use Rattle.std.proofs.Common.{◌≡◌, ap, ◌∙◌}
-use Rattle.std.specs.Arc.{arc_value}
-use Rattle.resident.specs.Underway.{CallUnderway, IsSomeCall}
-use Rattle.resident.specs.Inner.Going.{inside_call}
-use Rattle.resident.specs.declared.calling.CallPlace.TheVariants.{Inside}
+use Rattle.resident.proofs.Words.{ap, arc_value, CallUnderway, Inside, inside_call, IsSomeCall, ◌∙◌, ◌≡◌}
 use Rattle.resident.proofs.SlicesAreOneCall.{inside_of}
 use Rattle.resident.proofs.calling.Calling.run.Goals as goal
 

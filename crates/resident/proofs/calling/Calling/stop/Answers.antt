@@ -1,10 +1,5 @@
-use Rattle.std.proofs.Common.{◌≡◌, sym, ap, ◌∙◌}
-use Rattle.std.specs.Arc.{arc_value}
-use Rattle.instance.specs.Stops.{stop_of}
+use Rattle.resident.proofs.Words.{ap, arc_value, call_underway, CallPlace, inside_call, IsSomeCall, stop_of, sym, ◌∙◌, ◌≡◌}
 use Rattle.resident.specs.Slices.{CallStandsAt}
-use Rattle.resident.specs.Underway.{IsSomeCall}
-use Rattle.resident.specs.Inner.Going.{call_underway, inside_call}
-use Rattle.resident.specs.declared.calling.CallPlace.{CallPlace}
 use Rattle.resident.proofs.SlicesAreOneCall.{stands_at, stands_within}
 use Rattle.resident.proofs.calling.Calling.stop.Goals as goal
 

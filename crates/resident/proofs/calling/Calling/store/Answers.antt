@@ -1,14 +1,7 @@
-use Rattle.std.proofs.Common.{Option, None, refl}
-use Rattle.std.specs.Arc.{arc_value}
+use Rattle.resident.proofs.Words.{arc_value, call_underway, CallPlace, Halt, Import, Inside, IsSomeCall, None, Option, refl, stop_of, Store}
 use Rattle.syntax.specs.Loaded.{Loaded}
-use Rattle.instance.specs.Store.{Store}
-use Rattle.instance.specs.Stops.{Halt, stop_of}
 use Rattle.interp.specs.declared.machine.Machine.{Machine}
 use Rattle.resident.specs.Slices.{CallStandsAt}
-use Rattle.resident.specs.Underway.{IsSomeCall}
-use Rattle.resident.specs.Inner.Going.{call_underway}
-use Rattle.resident.specs.declared.calling.CallPlace.{CallPlace}
-use Rattle.resident.specs.declared.calling.CallPlace.TheVariants.{Import, Inside}
 use Rattle.resident.proofs.SlicesAreOneCall.{stands_at}
 use Rattle.resident.proofs.calling.Calling.store.Goals as goal
 

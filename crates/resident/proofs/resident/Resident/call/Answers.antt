@@ -1,6 +1,4 @@
-use Rattle.std.proofs.Common.{refl}
-use Rattle.std.specs.Arc.{arc_value}
-use Rattle.resident.specs.Calls.{KeptInstance}
+use Rattle.resident.proofs.Words.{arc_value, KeptInstance, refl}
 use Rattle.resident.proofs.Refused.{called}
 use Rattle.resident.proofs.resident.Resident.call.Goals as goal
 

@@ -1,7 +1,5 @@
-use Rattle.std.proofs.Common.{refl}
-use Rattle.std.specs.Arc.{arc_value}
+use Rattle.resident.proofs.Words.{arc_value, KeptInstance, refl}
 use Rattle.interp.specs.Lent.{ended_in}
-use Rattle.resident.specs.Calls.{KeptInstance}
 use Rattle.resident.proofs.Refused.{called}
 use Rattle.resident.proofs.resident.Resident.call_into.Goals as goal
 

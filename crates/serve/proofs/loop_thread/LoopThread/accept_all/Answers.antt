@@ -1,5 +1,4 @@
-use Rattle.std.proofs.Common.{◌+◌, refl, ap, ◌∙◌}
-use Rattle.phases.specs.State.{Setting}
+use Rattle.serve.proofs.Words.{ap, refl, Setting, ◌+◌, ◌∙◌}
 use Rattle.serve.proofs.Told.{when_none, stays_same, stays_offered, keeps_then}
 use Rattle.serve.proofs.Tying.{collects_number}
 use Rattle.serve.proofs.loop_thread.LoopThread.accept_all.Goals as goal

@@ -1,12 +1,6 @@
-use Rattle.std.proofs.Common.{◌≡◌, [], refl, sym, ap, subst, ◌∙◌}
-use Rattle.std.proofs.Math.Logic.{∥∥₁_map}
-use Rattle.phases.specs.View.{new_view}
+use Rattle.serve.proofs.Words.{ap, IsAlone, IsTied, new_view, refl, Seats, subst, sym, thread_calls, [], ∥∥₁_map, ◌∙◌, ◌≡◌}
 use Rattle.pool.specs.Share.{view_by}
-use Rattle.pool.specs.declared.seats.Seats.{Seats}
-use Rattle.serve.specs.Histories.{thread_calls}
-use Rattle.serve.specs.Inner.Alone.{IsAlone}
 use Rattle.serve.proofs.OneEventMore.{opens_new}
-use Rattle.serve.specs.Inner.Ends.{IsTied}
 use Rattle.serve.proofs.PostsBehind.{posting_view, found_none, new_posts}
 use Rattle.serve.proofs.SentAlone.{none_sent}
 use Rattle.serve.proofs.Tying.{tied_new}

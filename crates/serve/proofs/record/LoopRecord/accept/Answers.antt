@@ -1,6 +1,4 @@
-use Rattle.std.proofs.Common.{refl}
-use Rattle.serve.specs.Histories.{thread_calls}
-use Rattle.serve.specs.Inner.Alone.{IsAlone}
+use Rattle.serve.proofs.Words.{IsAlone, refl, thread_calls}
 use Rattle.serve.proofs.OneEventMore.{moves_accept, accepted_leaves}
 use Rattle.serve.proofs.Turning.{goes_still}
 use Rattle.serve.proofs.record.LoopRecord.accept.Goals as goal

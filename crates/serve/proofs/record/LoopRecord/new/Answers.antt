@@ -1,5 +1,4 @@
-use Rattle.std.proofs.Common.{refl, arith}
-use Rattle.serve.specs.Histories.{thread_calls}
+use Rattle.serve.proofs.Words.{arith, refl, thread_calls}
 use Rattle.serve.proofs.OneEventMore.{done_nothing}
 use Rattle.serve.proofs.Turning.{opening_goes}
 use Rattle.serve.proofs.record.LoopRecord.new.Goals as goal

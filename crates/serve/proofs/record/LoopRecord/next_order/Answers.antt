@@ -1,8 +1,4 @@
-use Rattle.std.proofs.Common.{refl, ap, ◌∙◌}
-use Rattle.pool.specs.declared.seats.Seats.{Seats}
-use Rattle.phases.specs.State.{Loop}
-use Rattle.serve.specs.Histories.{thread_calls}
-use Rattle.serve.specs.Inner.Alone.{IsAlone}
+use Rattle.serve.proofs.Words.{ap, IsAlone, Loop, refl, Seats, thread_calls, ◌∙◌}
 use Rattle.serve.proofs.OneEventMore.{moves_order}
 use Rattle.serve.proofs.Turning.{goes_still, handed_roster, handed_phase}
 use Rattle.serve.proofs.record.LoopRecord.next_order.Goals as goal

@@ -1,8 +1,4 @@
-use Rattle.std.proofs.Common.{refl, ap, ◌∙◌, arith}
-use Rattle.pool.specs.declared.seats.Seats.{Seats}
-use Rattle.phases.specs.State.{Loop}
-use Rattle.serve.specs.Histories.{thread_calls}
-use Rattle.serve.specs.Inner.Alone.{IsAlone}
+use Rattle.serve.proofs.Words.{ap, arith, IsAlone, Loop, refl, Seats, thread_calls, ◌∙◌}
 use Rattle.serve.proofs.OneEventMore.{moves_wait}
 use Rattle.serve.proofs.Turning.{goes_still}
 use Rattle.serve.proofs.record.LoopRecord.pass.Goals as goal

@@ -1,8 +1,5 @@
-use Rattle.std.proofs.Common.{refl, sym, ap, subst}
-use Rattle.phases.specs.State.{State}
+use Rattle.serve.proofs.Words.{ap, IsAlone, refl, State, subst, sym, thread_calls}
 use Rattle.pool.specs.SeatsLaw.{seats_post_leaves}
-use Rattle.serve.specs.Histories.{thread_calls}
-use Rattle.serve.specs.Inner.Alone.{IsAlone}
 use Rattle.serve.proofs.OneEventMore.{moves_beside}
 use Rattle.serve.proofs.PostsBehind.{posted_or_not}
 use Rattle.serve.proofs.Turning.{goes_still}

@@ -1,5 +1,4 @@
-use Rattle.std.proofs.Common.{◌++◌, refl, ap, ◌∙◌, arith}
-use Rattle.phases.specs.Bare.{whole_did}
+use Rattle.serve.proofs.Words.{ap, arith, refl, whole_did, ◌++◌, ◌∙◌}
 use Rattle.serve.proofs.OneEventMore.{moves_run, moves_other, tells_other}
 use Rattle.serve.proofs.SentAlone.{step_alone}
 use Rattle.serve.proofs.Turning.{step_drains, step_at_turn, step_drained}

@@ -1,7 +1,4 @@
-use Rattle.std.proofs.Common.{◌≡◌, ◌<◌, ◌≤◌}
-use Rattle.limits.specs.declared.TheConstants.{MAX_CALLBACKS}
-use Rattle.serve.specs.Histories.{thread_calls}
-use Rattle.serve.specs.Inner.Moves.{MovesAlone}
+use Rattle.serve.proofs.Words.{MAX_CALLBACKS, MovesAlone, thread_calls, ◌<◌, ◌≡◌, ◌≤◌}
 use Rattle.serve.specs.Inner.Turns.{Drains}
 use Rattle.serve.proofs.record.LoopRecord.step_through.Given as goal
 

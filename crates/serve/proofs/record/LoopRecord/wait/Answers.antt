@@ -1,5 +1,4 @@
-use Rattle.std.proofs.Common.{sym, ◌∙◌}
-use Rattle.serve.specs.Histories.{thread_calls}
+use Rattle.serve.proofs.Words.{sym, thread_calls, ◌∙◌}
 use Rattle.serve.proofs.Turning.{waits}
 use Rattle.serve.proofs.record.LoopRecord.wait.Goals as goal
 

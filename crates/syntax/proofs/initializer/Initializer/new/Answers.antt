@@ -1,7 +1,4 @@
-use Rattle.std.proofs.Common.{◌≡◌, Some, sym, ◌∙◌}
-use Rattle.syntax.specs.declared.types.Value.{Value}
-use Rattle.syntax.specs.declared.instruction.Instr.TheVariants.{Const}
-use Rattle.syntax.specs.Code.{Done, Plain}
+use Rattle.syntax.proofs.Words.{Const, Done, Plain, Some, sym, Value, ◌∙◌, ◌≡◌}
 use Rattle.syntax.proofs.initializer.Initializer.new.Goals as goal
 
 pub returns-in-Some : goal.returns-in-Some

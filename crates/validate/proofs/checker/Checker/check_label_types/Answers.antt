@@ -1,7 +1,4 @@
-use Rattle.std.proofs.Common.{◌≡◌, ℕ, length, ◌<◌, get_or, take, Some, slice_get, refl, ap, ◌∙◌, arith}
-use Rattle.validate.specs.Inner.Checking.{context_at}
-use Rattle.std.proofs.lemmas.List.{take_all, take_more}
-use Rattle.std.proofs.lemmas.List.Elements.{All-push}
+use Rattle.validate.proofs.Words.{All-push, ap, arith, context_at, get_or, length, refl, slice_get, Some, take, take_all, take_more, ℕ, ◌<◌, ◌∙◌, ◌≡◌}
 use Rattle.validate.proofs.checker.Checker.check_label_types.Goals as goal
 
 pub loop-label-preserved : goal.loop-label-preserved

@@ -1,7 +1,4 @@
-use Rattle.std.proofs.Common.{ℕ, length, ◌<◌, get_or, take, IsSome, slice_get, refl, arith}
-use Rattle.std.proofs.lemmas.List.{take_all, take_more}
-use Rattle.std.proofs.lemmas.List.Elements.{All-push}
-use Rattle.validate.specs.Inner.Checking.{context_at}
+use Rattle.validate.proofs.Words.{All-push, arith, context_at, get_or, IsSome, length, refl, slice_get, take, take_all, take_more, ℕ, ◌<◌}
 use Rattle.validate.proofs.checker.Checker.check_labels.Goals as goal
 
 pub loop-label-preserved : goal.loop-label-preserved

@@ -1,5 +1,4 @@
-use Rattle.std.proofs.Common.{take, All, IsSome, slice_get}
-use Rattle.validate.specs.Inner.Checking.{context_at}
+use Rattle.validate.proofs.Words.{All, context_at, IsSome, slice_get, take}
 use Rattle.validate.proofs.checker.Checker.check_labels.Given as goal
 
 abbrev pub invariant-loop-label : goal.invariant-loop-label

@@ -1,5 +1,4 @@
-use Rattle.std.proofs.Common.{◌≡◌, ◌+◌, ◌-◌, ◌<◌, length, arith}
-use Rattle.std.proofs.lemmas.Result.{err_from_is_err_and}
+use Rattle.validate.proofs.Words.{arith, err_from_is_err_and, length, ◌+◌, ◌-◌, ◌<◌, ◌≡◌}
 use Rattle.validate.proofs.Rejected.{lacks_at}
 use Rattle.validate.proofs.operands.Operands.pop_all.Goals as goal
 

@@ -1,34 +1,13 @@
 -- `into_loose` gives the pointer back, and what it owns.
-use Rattle.std.proofs.Common.{◌≡◌, List, [], ◌∷◌, ◌++◌, refl, sym, ◌∙◌, subst}
-use mir.Syntax.{impl, tnil, dnil, ty_ptr}
-use mathlib.Core.Bool.{◌&&◌, true}
-use lib.Dec.{T}
-use mir.Val.{Val, vstruct, of_list, has_ty, WT}
-use base.Logic.{SProp, ent, emp, id⊢}
-use prog.Wp.{WpFn}
-use types.Kit.{‵, raw, ◌⊛◌, ◌$◌, ◌∵◌, !, qed, by, move, keep, drop, split, fsplit, fjoin, fpick, fpack, suffices, use0, feq_i, feq_l}
-use types.Run.{stop, fld, of_opd, no_more, and_then, returns, enter}
-use types.ByLocal.{alloc_all, pass_all, free_all, look_at, get, get_in, sets}
-use types.Part.{agg, sub, whole}
-use contract.Monad.{fact, fact_i}
-use contract.Running.{tables}
-use denote.Exit.{yes}
-use denote.RattleType.{RattleType, Valss, owns}
-use denote.Param.{layout}
-use denote.Signature.{types_at, plain}
-use denote.Builtin.{RawPtr}
-use denote.RawPtr.{Ptr, ptr_val}
-use denote.Struct.Struct.{within}
-use denote.Struct.Owning.{shape}
-use denote.Steps.{nothing}
-use denote.Triple.Entry.{alive}
-use denote.Triple.Walked.{Stays, stay_dropped, walk_of, Goes-dropped}
-use Rattle.std.proofs.alloc.Calls.{Al, handle_tells}
+use Rattle.wasmloop_c.proofs.Names.{alloc_all, and_then, free_all, Goes-dropped, handle_tells, look_at, pass_all, proved_at, RattleType, stay_dropped, suffices}
+use Rattle.wasmloop_c.proofs.Names.{Al, fact_i, fsplit, get_in, ghosts, has_ty, layout, no_more, nothing, of_list, ptr_val, returns, types_at, vstruct, walk_of}
+use Rattle.wasmloop_c.proofs.Names.{alive, enter, feq_i, feq_l, fjoin, fpack, fpick, leaves, of_opd, plain, RawPtr, shape, split, SProp, tables, ty_ptr, within}
+use Rattle.wasmloop_c.proofs.Names.{dnil, fact, impl, keep, List, move, owns, refl, sets, Stays, stop, subst, tnil, true, use0, Valss, whole, WpFn, ◌&&◌, ◌++◌}
+use Rattle.wasmloop_c.proofs.Names.{agg, by, emp, ent, fld, get, id⊢, Ptr, qed, raw, sub, sym, T, Val, WT, yes, !, [], ‵, ◌$◌, ◌∙◌, ◌∵◌, ◌∷◌, ◌≡◌, ◌⊛◌}
+use types.Kit.{drop}
 use Rattle.wasmloop_c.proofs.Words.{Ptr-Good, both_tt, one_tt, alone, beside}
 use Rattle.std.specs.contracts.alloc.Global as heap
 use Rattle.std.proofs.alloc.Global.TheLaws as heap_laws
-use Rattle.std.specs.contracts.impls.GlobalAllocator.TheImpl.{ghosts}
-use Rattle.std.proofs.raw_atomic.Walks.{proved_at, leaves}
 use Rattle.wasmloop_c.specs.contracts.raw.Raw as held
 use Rattle.wasmloop_c.specs.contracts.thing.Thing as thing
 use Rattle.slot.specs.contracts.loose.Loose as loose

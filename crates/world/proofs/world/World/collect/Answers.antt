@@ -1,7 +1,4 @@
-use Rattle.std.proofs.Common.{◌≡◌, ◌<◌, [], length, map, Some, sym, ap, ◌∙◌}
-use Rattle.std.specs.Prelude.{slice_set}
-use Rattle.std.proofs.lemmas.List.{length-map, length-set, map-set}
-use Rattle.world.specs.Making.{answers_of}
+use Rattle.world.proofs.Words.{answers_of, ap, length, length-map, length-set, map, map-set, slice_set, Some, sym, [], ◌<◌, ◌∙◌, ◌≡◌}
 use Rattle.world.proofs.Sets.{kept_set}
 use Rattle.world.proofs.StepsAgree.{read}
 use Rattle.world.proofs.CollectsAgree.{reads_at, emptied, collect_failed, collect_nothing, collect_taken, collect_stranger}

@@ -1,6 +1,4 @@
-use Rattle.std.proofs.Common.{◌≡◌, ◌++◌, ◌∷◌, [], length, ◌∙◌, ap, sym, subst}
-use Rattle.std.proofs.lemmas.List.{map-append}
-use Rattle.world.specs.Making.{IsJob, answer_of, answers_of}
+use Rattle.world.proofs.Words.{answer_of, answers_of, ap, IsJob, length, map-append, subst, sym, [], ◌++◌, ◌∙◌, ◌∷◌, ◌≡◌}
 use Rattle.world.specs.declared.worker.Worker.TheVariants as worker
 use Rattle.world.proofs.StepsAgree.{read}
 use Rattle.world.proofs.WorkersAgree.{read_or, loop_there, on_err, started_same, job_held, kept_reply, finishes_nothing, reserves, finishes}

@@ -1,8 +1,6 @@
-use Rattle.std.proofs.Common.{ap, sym, ◌∙◌}
-use Rattle.std.specs.Prelude.{slice_get}
+use Rattle.world.proofs.Words.{ap, slice_get, sym, World, ◌∙◌}
 use Rattle.world.proofs.StepsAgree.{read}
 use Rattle.world.proofs.StopsAgree.{stops_in}
-use Rattle.world.specs.World.{World}
 use Rattle.world.proofs.world.World.last_stop.Goals as goal
 
 pub returns : goal.returns

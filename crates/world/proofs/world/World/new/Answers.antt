@@ -1,6 +1,4 @@
-use Rattle.std.proofs.Common.{[], map, replicate, ap, ◌∙◌}
-use Rattle.world.specs.Making.{settings_from, answers_of}
-use Rattle.world.specs.World.{opening_loop}
+use Rattle.world.proofs.Words.{answers_of, ap, map, opening_loop, replicate, settings_from, [], ◌∙◌}
 use Rattle.world.proofs.WorldsOpen.{opening_kept, opening_is}
 use Rattle.world.proofs.world.World.new.Goals as goal
 

@@ -1,9 +1,5 @@
-use Rattle.std.proofs.Common.{◌≡◌, ◌≢◌, ◌∷◌, [], ◌≤◌, ◌<◌, length, map, ◌∙◌, sym, ap, arith}
+use Rattle.world.proofs.Words.{ap, arith, IsJob, length, length-map, map, map-append, MAX_JOBS, order_of, sym, [], ◌<◌, ◌∙◌, ◌∷◌, ◌≡◌, ◌≢◌, ◌≤◌}
 use Rattle.std.specs.VecDeque.{deque_len, deque_capacity}
-use Rattle.std.proofs.lemmas.List.{length-map, map-append}
-use Rattle.limits.specs.declared.TheConstants.{MAX_JOBS}
-use Rattle.order.specs.Orders.{order_of}
-use Rattle.world.specs.Making.{IsJob}
 use Rattle.world.proofs.Sets.{kept_set, kept_push, numbered_at}
 use Rattle.world.proofs.StepsAgree.{read, posts_failed, posts_full, posts_nothing, posts_order}
 use Rattle.world.proofs.world.World.post.Goals as goal

@@ -1,5 +1,4 @@
-use Rattle.std.proofs.Common.{◌≡◌, length, ◌∙◌, sym, subst}
-use Rattle.world.specs.Making.{IsJob}
+use Rattle.world.proofs.Words.{IsJob, length, subst, sym, ◌∙◌, ◌≡◌}
 use Rattle.world.specs.declared.worker.Worker.TheVariants as worker
 use Rattle.world.proofs.Sets.{kept_set}
 use Rattle.world.proofs.StepsAgree.{read}

@@ -1,5 +1,4 @@
-use Rattle.std.proofs.Common.{◌∙◌, ◌++◌, ap}
-use Rattle.world.specs.World.{entry_told}
+use Rattle.world.proofs.Words.{ap, entry_told, ◌++◌, ◌∙◌}
 use Rattle.world.proofs.Sets.{kept_set}
 use Rattle.world.proofs.StepsAgree.{read, steps}
 use Rattle.world.proofs.world.World.step_loop.Goals as goal

@@ -6,7 +6,6 @@ usage: PYTHONPATH=capi/python WASMLOOP_LIBRARY=LIBRARY desk_edge.py EDGE OUT [FA
 import http.client
 import random
 import shutil
-import socket
 import subprocess
 import sys
 import threading
@@ -16,26 +15,20 @@ from pathlib import Path
 import desk_guests as guests
 from wasmloop import lines, replay
 
-EDGE, OUT = sys.argv[1], Path(sys.argv[2])
 EXAMPLES = Path(__file__).resolve().parent.parent.parent / "examples"
+sys.path.insert(0, str(EXAMPLES / "edge"))
+from ports import connects, free_port  # noqa: E402
+
+EDGE, OUT = sys.argv[1], Path(sys.argv[2])
 CLIENTS, REQUESTS, SECONDS, MOST_BYTES = 3, 5000, 30, 300
 
 
-def free_port():
-    with socket.socket() as it:
-        it.bind(("127.0.0.1", 0))
-        return it.getsockname()[1]
-
-
 def connection(port):
-    """A connection once the server listens, from another address: a client that asks too early can't be given the server's port, and so connect to itself."""
+    """A connection once the server listens."""
     for _ in range(100):
-        made = http.client.HTTPConnection("127.0.0.1", port, timeout=SECONDS, source_address=("127.0.0.2", 0))
-        try:
-            made.connect()
-            return made
-        except OSError:
-            time.sleep(0.05)
+        if connects(port):
+            return http.client.HTTPConnection("127.0.0.1", port, timeout=SECONDS)
+        time.sleep(0.05)
     sys.exit("FAILED: the edge server does not answer")
 
 

@@ -6,9 +6,12 @@ import os
 import pathlib
 import re
 import shutil
-import socket
+import sys
 import tempfile
 import time
+
+sys.path.insert(0, str(pathlib.Path(__file__).resolve().parent.parent))
+import ports  # noqa: E402
 
 
 def words(**options):
@@ -34,18 +37,10 @@ def put(guest, path):
     os.rename(path.parent / "new", path)
 
 
-def free_port():
-    with socket.socket() as s:
-        s.bind(("127.0.0.1", 0))
-        return s.getsockname()[1]
-
-
 def listening(server, port):
-    """The server, once it listens. Asks from another address: a client that asks too early could be given the server's port, and so connect to
-    itself."""
+    """The server, once it listens."""
     for _ in range(1200):
-        with contextlib.suppress(OSError):
-            socket.create_connection(("127.0.0.1", port), None, ("127.0.0.2", 0)).close()
+        if ports.connects(port):
             return server
         if server.poll() is not None:
             break

@@ -240,7 +240,7 @@ def cost(servers):
 
 @contextlib.contextmanager
 def alone(threads=told.threads, program=None):
-    port = common.free_port()
+    port = common.ports.free_port()
     server = start("edge", port, threads, program)
     yield port, server
     server.terminate()
@@ -313,7 +313,7 @@ def main():
             if why := missing(name):
                 print(f"left out: {name}: {why}", flush=True)
             else:
-                port = common.free_port()
+                port = common.ports.free_port()
                 servers[name] = port, start(name, port)
         machine = f"{os.cpu_count()} processors, load {os.getloadavg()[0]:.1f}{', ' + ' '.join(PREFIX) if PREFIX else ''}"
         print(f"{told.seconds} s a cell, {told.rounds} rounds, {machine}", flush=True)

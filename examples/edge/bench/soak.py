@@ -137,7 +137,7 @@ def fill():
 
 
 def main():
-    port = common.free_port()
+    port = common.ports.free_port()
     fill()
     server = subprocess.Popen([told.edge, "-p", str(port), "-w", str(told.threads), FOLDER], stdout=subprocess.PIPE, text=True, env=EXACT)
     reader = threading.Thread(target=read_log, args=(server,))

@@ -2,7 +2,7 @@
 # Runs the lines of README.md that begin with curl, on a server of EDGE: each prints what stands behind its #. usage: lines.sh EDGE GUESTS
 set -u
 here=$(cd "$(dirname "$0")/.." && pwd) room=$(mktemp -d) failed=0 count=0
-port=$(python3 -c 'import socket; s = socket.socket(); s.bind(("127.0.0.1", 0)); print(s.getsockname()[1])')
+port=$(cd "$here" && python3 -c 'import ports; print(ports.free_port())')
 cp "$2"/*.wasm "$here/dashboard.html" "$room"
 for guest in "$room"/*.wasm; do echo 'deadline 60000' > "${guest%.wasm}.conf"; done # a busy machine is no failure
 echo 'type text/plain' >> "$room/hello.conf"

@@ -24,6 +24,9 @@ import time
 import zlib
 
 HERE = pathlib.Path(__file__).resolve().parent
+sys.path.insert(0, str(HERE.parent))
+from ports import connects, free_port  # noqa: E402
+
 EDGE, GUESTS = sys.argv[1], pathlib.Path(sys.argv[2])
 MIB = 1 << 20
 PATIENT, ENDLESS = "deadline 60000\n", "fuel 1000000000000000\n"
@@ -63,20 +66,14 @@ class Server:
         until("the server listens", self.listens, 120)
 
     def listens(self):
-        """Starts it, again if another process has taken its port. Asks from another address: a client that asks too early could be given the
-        server's port, and so connect to itself."""
+        """Starts it, again if another process has taken its port."""
         if not self.process or self.process.poll() is not None:
-            with socket.socket() as s:
-                s.bind(("127.0.0.1", 0))
-                self.port = s.getsockname()[1]
+            self.port = free_port()
             edge = [EDGE, "-p", str(self.port), "-w", "3", *self.options, str(self.folder)]
             if self.python:
                 edge = ["/usr/bin/python3", HERE.parent / "edge.py", str(self.folder), str(self.port), "3"]
             self.process = subprocess.Popen(edge, stdout=self.log, stderr=subprocess.PIPE, text=True)
-        with contextlib.suppress(OSError):
-            self.connect("127.0.0.2").close()
-            return self.process.poll() is None
-        return False
+        return connects(self.port) and self.process.poll() is None
 
     def connect(self, by="127.0.0.1"):
         return socket.create_connection(("127.0.0.1", self.port), 60, (by, 0))

@@ -1,8 +1,8 @@
 -- The words that several proofs of this crate use, from where they are defined.
 pub use Rattle.limits.specs.declared.TheConstants.{MAX_HEIGHT, MAX_NESTING}
 pub use Rattle.std.proofs.Common.{All, ap, append-nil, append_assoc, arith, Bool, drop, false, get_or, IfSome, inl, inr, IsSome, length, List, map, max, min}
-pub use Rattle.std.proofs.Common.{None, Option, refl, rules, set, slice_get, Some, subst, suc, sym, take, true, zero, ℕ, [], ◌++◌, ◌+◌, ◌-◌, ◌<◌, ◌∙◌, ◌∷◌, ◌≡◌}
-pub use Rattle.std.proofs.Common.{◌≤◌, ◌⊎◌}
+pub use Rattle.std.proofs.Common.{None, Option, refl, rules, set, slice_get, Some, subst, suc, sym, take, true, zero, ℕ, [], ◌++◌, ◌+◌, ◌-◌, ◌<◌, ◌^◌, ◌∙◌, ◌∷◌}
+pub use Rattle.std.proofs.Common.{◌≡◌, ◌≤◌, ◌⊎◌}
 pub use Rattle.std.proofs.lemmas.List.{drop_all, drop_at, drop_more, length-append, length-drop, length-map, length-take, length_push, take-append-drop}
 pub use Rattle.std.proofs.lemmas.List.{take_all, take_at, take_more}
 pub use Rattle.std.proofs.lemmas.List.Elements.{All-push}

@@ -1,11 +1,19 @@
 // Limits of a call that are in range.
 
-ghost use Rattle.std.specs.Prelude.{◌≡◌, ◌≤◌, ◌<◌, ◌⊎◌, None, IfSome};
-ghost use Rattle.limits.specs.declared.TheConstants.{MAX_DEPTH};
+ghost use Rattle.std.specs.Prelude.{◌≡◌, ◌↔◌, None, IfSome, IsTrue};
+ghost use Rattle.wasmloop_c.specs.Calls.{IsDepth};
 
 use crate::instances::CallLimits;
 use limits::MAX_DEPTH;
 use std::marker::Model;
+
+/// Whether so many calls may stand open.
+#[inline(always)]
+pub fn is_depth(depth: u32) -> bool
+    ensures { IsTrue result ↔ IsDepth depth }
+{
+    1 <= depth && depth <= MAX_DEPTH
+}
 
 /// Limits of a call whose depth is in range. To a contract they are the limits.
 #[derive(Clone, Copy)]
@@ -14,8 +22,7 @@ pub struct CheckedLimits {
 }
 
 impl Model for CheckedLimits {
-    ghost use Rattle.std.specs.Prelude.{◌≤◌};
-    ghost use Rattle.limits.specs.declared.TheConstants.{MAX_DEPTH};
+    ghost use Rattle.wasmloop_c.specs.Calls.{IsDepth};
     ghost use Rattle.wasmloop_c.specs.declared.instances.CallLimits.{CallLimits};
 
     ghost Value = { CallLimits };
@@ -24,7 +31,7 @@ impl Model for CheckedLimits {
 
     ghost inverse = { λ limits. record { limits = limits } };
 
-    ghost invariant = { λ c. (1 ≤ c.limits.depth) × (c.limits.depth ≤ MAX_DEPTH) };
+    ghost invariant = { λ c. IsDepth c.limits.depth };
 }
 
 impl CheckedLimits {
@@ -32,14 +39,13 @@ impl CheckedLimits {
     #[inline(always)]
     pub fn of(limits: &CallLimits) -> Option<CheckedLimits>
         ensures same { IfSome result (λ c. c ≡ limits.now) }
-        ensures range { IfSome result (λ c. (1 ≤ limits.now.depth) × (limits.now.depth ≤ MAX_DEPTH)) }
-        ensures outside { result ≡ None → (limits.now.depth < 1) ⊎ (MAX_DEPTH < limits.now.depth) }
+        ensures range { IfSome result (λ c. IsDepth limits.now.depth) }
+        ensures outside { result ≡ None → ¬ IsDepth limits.now.depth }
     {
-        let limits = *limits;
-        if limits.depth < 1 || limits.depth > MAX_DEPTH {
+        if !is_depth(limits.depth) {
             return None;
         }
-        Some(CheckedLimits { limits })
+        Some(CheckedLimits { limits: *limits })
     }
 
     /// The fuel of the call.
@@ -54,7 +60,7 @@ impl CheckedLimits {
     #[inline(always)]
     pub fn depth(self) -> u32
         ensures value { result ≡ self.depth }
-        ensures range { (1 ≤ result) × (result ≤ MAX_DEPTH) }
+        ensures range { IsDepth result }
     {
         self.limits.depth
     }

@@ -137,10 +137,8 @@ pub fn named(
     let Some((function, func_type)) = resident.function(name) else {
         return Err(NONE);
     };
-    match arguments(alloc, func_type.params.as_slice(), numbers) {
-        Ok(args) => Ok((function, args)),
-        Err(status) => Err(status),
-    }
+    let args = arguments(alloc, func_type.params.as_slice(), numbers)?;
+    Ok((function, args))
 }
 
 /// Calls a function of an instance that has so many results, at most one, with these arguments.

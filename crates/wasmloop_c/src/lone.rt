@@ -1,18 +1,19 @@
 // Jobs that no loop asks for.
 
-ghost use Rattle.std.specs.Prelude.{◌≡◌, ◌≤◌, ◌<◌, ◌⊎◌, ℕ, None, length, codes, IfOk, IsSomeAnd, MatchOption};
+ghost use Rattle.std.specs.Prelude.{◌≡◌, ◌≤◌, ◌⊎◌, ℕ, None, length, codes, IfOk, IsSomeAnd, MatchOption};
 ghost use Rattle.std.specs.Arc.{arc_value};
-ghost use Rattle.limits.specs.declared.TheConstants.{MAX_BYTES, MAX_DEPTH};
+ghost use Rattle.limits.specs.declared.TheConstants.{MAX_BYTES};
 ghost use Rattle.imports.specs.Linking.{ExportsFunction};
 ghost use Rattle.order.specs.Orders.{order_of};
 ghost use Rattle.wasmloop_c.specs.Calls.{AnswersIn, AnswersWork, IsDepth, IsLoneJob, lone_order, module_of};
 
+use crate::checked::is_depth;
 use crate::handle::{Handle, on};
 use crate::job::RunnableOrder;
 use crate::status::{KIND, MEMORY, NO_WORK, OK, RANGE};
 use crate::thing::{JobStage, Thing};
 use imports::{EntryPoint, Linked};
-use limits::{MAX_BYTES, MAX_DEPTH};
+use limits::MAX_BYTES;
 use order::Order;
 use std::alloc::{AllocError, Global};
 use std::sync::Arc;
@@ -58,7 +59,7 @@ fn boxed(
 ) -> Result<Box<Thing, Global>, AllocError>
     requires work { (f : ℕ) × ExportsFunction (arc_value linked.now).contents (codes "uv_work") f }
     requires bytes { length bytes.now ≤ MAX_BYTES }
-    requires depth { (1 ≤ task.depth) × (task.depth ≤ MAX_DEPTH) }
+    requires depth { IsDepth task.depth }
     ensures { IfOk result (λ b. IsLoneJob (arc_value linked.now) task bytes.now b.value) }
 {
     let order = order_for(alloc, linked, task, bytes)?;
@@ -75,7 +76,7 @@ fn put_job(
 ) -> u32
     requires work { (f : ℕ) × ExportsFunction (arc_value linked.now).contents (codes "uv_work") f }
     requires bytes { length bytes.now ≤ MAX_BYTES }
-    requires depth { (1 ≤ task.depth) × (task.depth ≤ MAX_DEPTH) }
+    requires depth { IsDepth task.depth }
     requires empty { job.old.raw.value ≡ None }
     ensures makes { result ≡ OK → IsSomeAnd job.new.raw.value (IsLoneJob (arc_value linked.now) task bytes.now) }
     ensures refuses { (result ≡ OK → ⊥) → job.new.raw.value ≡ None }
@@ -86,7 +87,7 @@ fn put_job(
 
 fn make(alloc: Global, module: &Thing, task: Task, bytes: &[u8], job: &mut Handle) -> u32
     requires bytes { length bytes.now ≤ MAX_BYTES }
-    requires depth { (1 ≤ task.depth) × (task.depth ≤ MAX_DEPTH) }
+    requires depth { IsDepth task.depth }
     requires empty { job.old.raw.value ≡ None }
     ensures makes { result ≡ OK → IsSomeAnd (module_of module.now) (λ m. IsSomeAnd job.new.raw.value (IsLoneJob m task bytes.now)) }
     ensures refuses { (result ≡ OK → ⊥) → job.new.raw.value ≡ None }
@@ -118,9 +119,8 @@ pub extern "C" fn wasmloop_rt_job_new(
     if job.is_full() {
         return KIND;
     }
-    let task = *task;
-    if task.depth < 1 || task.depth > MAX_DEPTH || bytes.len() > MAX_BYTES {
+    if !is_depth(task.depth) || bytes.len() > MAX_BYTES {
         return RANGE;
     }
-    on!(module, alloc, held => make(alloc, &held, task, bytes, job))
+    on!(module, alloc, held => make(alloc, &held, *task, bytes, job))
 }

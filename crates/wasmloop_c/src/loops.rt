@@ -2,12 +2,13 @@
 
 ghost use Rattle.std.specs.Prelude.{◌≡◌, ◌≤◌, ◌<◌, ◌↔◌, ◌⊎◌, None, IfOk, IsSomeAnd};
 ghost use Rattle.std.specs.Arc.{arc_value};
-ghost use Rattle.limits.specs.declared.TheConstants.{MAX_ASYNCS, MAX_DEPTH};
+ghost use Rattle.limits.specs.declared.TheConstants.{MAX_ASYNCS};
 ghost use Rattle.wasmloop_c.specs.Calls.{AnswersIn, IsDepth, OnLoop, OnResting, OnHeldLoop, ReadsLoop, ReadsHeldLoop, StepsNumbered, Clocks, SendsFromOutside};
 ghost use Rattle.wasmloop_c.specs.Calls.{CancelsNumbered, RequestsNumbered, IsNewLoop, CopiesEmits, loop_of, module_of, standing_of};
 ghost use Rattle.wasmloop_c.specs.Numbers.{hint_number};
 ghost use Rattle.phases.specs.PhaseList.{hint_of};
 
+use crate::checked::is_depth;
 use crate::copying::copy_front;
 use crate::did::Did;
 use crate::handle::{Handle, on};
@@ -18,7 +19,7 @@ use crate::turn::numbered_step;
 use desk::Desk;
 use events::did::Hint;
 use imports::Linked;
-use limits::{MAX_ASYNCS, MAX_DEPTH};
+use limits::MAX_ASYNCS;
 use phases::LoopCore;
 use std::alloc::{AllocError, Global};
 use std::sync::Arc;
@@ -55,7 +56,7 @@ fn opened(
     linked: &Arc<Linked, Global>,
     limits: Limits,
 ) -> Result<Box<Thing, Global>, AllocError>
-    requires { (1 ≤ limits.depth) × (limits.depth ≤ MAX_DEPTH) }
+    requires { IsDepth limits.depth }
     ensures { IfOk result (λ b. IsSomeAnd (loop_of b.value) (IsNewLoop (arc_value linked.now) limits)) }
 {
     let core = LoopCore::new(
@@ -76,7 +77,7 @@ fn opened(
 }
 
 fn open(alloc: Global, module: &Thing, limits: Limits, handle: &mut Handle) -> u32
-    requires depth { (1 ≤ limits.depth) × (limits.depth ≤ MAX_DEPTH) }
+    requires depth { IsDepth limits.depth }
     requires empty { handle.old.raw.value ≡ None }
     ensures opens { result ≡ OK → IsSomeAnd (module_of module.now) (λ m. IsSomeAnd handle.new.raw.value (λ t. IsSomeAnd (loop_of t) (IsNewLoop m limits))) }
     ensures refuses { (result ≡ OK → ⊥) → handle.new.raw.value ≡ None }
@@ -105,11 +106,10 @@ pub extern "C" fn wasmloop_rt_loop(
     if handle.is_full() {
         return KIND;
     }
-    let limits = *limits;
-    if limits.depth < 1 || limits.depth > MAX_DEPTH {
+    if !is_depth(limits.depth) {
         return RANGE;
     }
-    on!(module, alloc, held => open(alloc, &held, limits, handle))
+    on!(module, alloc, held => open(alloc, &held, *limits, handle))
 }
 
 fn step_stage(stage: &mut LoopStage, did: &mut Did) -> u32

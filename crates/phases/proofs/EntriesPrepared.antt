@@ -24,11 +24,6 @@ module _ {S : Type 0} (calls : Calls S) (g : Setting) (old : Loop S) where
       called (handle_function r handle) f (λ n. Of did made new mid k handle n) is
       (rw e at run)
 
-  pub start_step : (f : ℕ) (p : Prepared) → g.loaded.contents.start ≡ Some f → p ≡ unread kind.Start 0 f [] → Prepares calls g (EntryStep calls g old entry.Start) p old
-  start_step f p is e =
-      prepares kind.Start 0 f [] p e calls g (EntryStep calls g old entry.Start) old
-      (λ did made new run. called g.loaded.contents.start f (λ n. RunsFrom calls g old kind.Start 0 n [] None did made new) is run)
-
   pub main_step : (f : ℕ) (p : Prepared) → ExportsFunction g.loaded.contents (codes "uv_main") f → p ≡ unread kind.Main 0 f []
       → Prepares calls g (EntryStep calls g old entry.Main) p old
   main_step f p exported e = prepares kind.Main 0 f [] p e calls g (EntryStep calls g old entry.Main) old (λ did made new run. (f, exported, run))
@@ -46,14 +41,6 @@ module _ {S : Type 0} (calls : Calls S) (g : Setting) (old : Loop S) where
         (CallsHandle calls g (in_state old fired) old.state.roster kind.Timer handle did made new) (Skips calls g old kind.Timer handle did made new) listed
         (handle_runs old.state.roster kind.Timer handle f (in_state old fired) u is e did made new run))
 
-    pub timer_skipped : (p : Prepared) (u : State) → is_as_listed handle_kind.Timer old.state.roster handle start ≡ false → u ≡ old.state
-        → p ≡ Did (Skipped kind.Timer handle) → Prepares calls g (EntryStep calls g old (entry.Timer handle start)) p (in_state old u)
-    timer_skipped p u listed e ep =
-        rw e (prepares_did (Skipped kind.Timer handle) p ep calls g (EntryStep calls g old (entry.Timer handle start)) old
-        (unless (is_as_listed handle_kind.Timer old.state.roster handle start)
-        (CallsHandle calls g (in_state old fired) old.state.roster kind.Timer handle (step.Skipped kind.Timer handle) [] old)
-        (Skips calls g old kind.Timer handle (step.Skipped kind.Timer handle) [] old) listed (refl, refl, refl)))
-
     module _ (listed : Kind) (k : EntryKind) where
       abbrev pub listed_entry : StepDid → List GuestCall → Loop S → Type 0
       listed_entry did made new =
@@ -65,12 +52,6 @@ module _ {S : Type 0} (calls : Calls S) (g : Setting) (old : Loop S) where
           prepares k handle f (I32 handle ∷ []) p ep calls g listed_entry old
           (λ did made new run. when (is_as_listed listed old.state.roster handle start) (CallsHandle calls g old old.state.roster k handle did made new)
           (Skips calls g old k handle did made new) on (handle_runs old.state.roster k handle f old old.state is refl did made new run))
-
-      pub listed_skipped : (p : Prepared) → is_as_listed listed old.state.roster handle start ≡ false → p ≡ Did (Skipped k handle) → Prepares calls g listed_entry p old
-      listed_skipped p off ep =
-          prepares_did (Skipped k handle) p ep calls g listed_entry old
-          (unless (is_as_listed listed old.state.roster handle start) (CallsHandle calls g old old.state.roster k handle (step.Skipped k handle) [] old)
-          (Skips calls g old k handle (step.Skipped k handle) [] old) off (refl, refl, refl))
 
   pub close_step : (handle f : ℕ) (p : Prepared) (u : State) → handle_function old.state.roster handle ≡ Some f
       → u ≡ with_roster old.state (without_handle old.state.roster handle) → p ≡ unread kind.Close handle f (I32 handle ∷ [])

@@ -1,7 +1,7 @@
 -- Requests that rise by their numbers, and what changes one of them.
 use Rattle.phases.proofs.Words.{All, Answered, ap, AreKept, AreRising, arith, Bool, cancellation, Cancelled, Completion, completion_of, cond, end_completion}
 use Rattle.phases.proofs.Words.{eq-eqb, eqb-suc-zero, eqb-true, false, filter, find, get_or, get_or_from_slice_get, has_number, in_stage, inl, inr, is_empty}
-use Rattle.phases.proofs.Words.{IsEndOf, length, List, list_any, map, MAX_BYTES, MAX_REQUEST_NUMBER, MAX_REQUESTS, ne_eqb, None, not, Open, refl, Request, set}
+use Rattle.phases.proofs.Words.{IsEndOf, length, List, list_any, map, MAX_BYTES, MAX_REQUEST_NUMBER, MAX_REQUESTS, ne_eqb, not, Open, refl, Request, set}
 use Rattle.phases.proofs.Words.{slice_get, slice_get_within, Some, Stage, subst, suc, sym, true, WorkEnd, WorkOrder, zero, ℕ, [], ◌++◌, ◌+◌, ◌<◌, ◌==◌, ◌||◌}
 use Rattle.phases.proofs.Words.{◌∙◌, ◌∷◌, ◌≡◌, ◌≤◌, ◌⊎◌}
 use Rattle.std.proofs.Common.{length-append, length-set}
@@ -228,15 +228,6 @@ pub short_completion : ((o : WorkOrder) (end : WorkEnd) → ∥ IsEndOf o end �
 short_completion short o (Answered end) t right h = let is : end_completion end ≡ t = cc in rw is at (short_end end (short o end right))
 short_completion short o Cancelled t right h = let is : cancellation ≡ t = cc in rw (sym is) (omega arith)
 short_completion short o _ t right h = absurd (cc)
-
--- where no request has the number, nothing is changed
-pub untouched_all : (stage : Stage) (n : ℕ) (xs : List Request) → find (has_number n) xs ≡ None → map (in_stage n stage) xs ≡ xs
-untouched_all stage n [] none = refl
-untouched_all stage n (x ∷ xs) none =
-    elim (has_number n x) as (λ b. cond b (Some x) (find (has_number n) xs) ≡ None → cond b (staged x stage) x ∷ map (in_stage n stage) xs ≡ x ∷ xs) [
-      | true ↦ λ e. absurd (cc)
-      | false ↦ λ e. ap (λ ys. x ∷ ys) (untouched_all stage n xs e)
-    ] none
 
 -- a filter leaves something exactly where something passes
 pub any_filtered : {X : Type 0} (p : X → Bool) (xs : List X) → not (is_empty (filter p xs)) ≡ list_any p xs

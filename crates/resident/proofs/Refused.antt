@@ -1,18 +1,10 @@
 -- What the host that refuses every import, and a module's start function, bring to a call.
-use Rattle.resident.proofs.Words.{AnswersMinusOne, CallsInstance, Contents, Ended, FuncType, HasFunctionType, HostCall, KeptInstance, Lawful, List, None, refl}
+use Rattle.resident.proofs.Words.{AnswersMinusOne, CallsInstance, Contents, Ended, FuncType, HasFunctionType, HostCall, KeptInstance, Lawful, List, None}
 use Rattle.resident.proofs.Words.{Some, type_of_function, Value, ℕ, ◌≡◌, ◌≤◌}
 use Rattle.std.proofs.Common.{[], ◌∷◌}
-use Rattle.reduction.specs.Invoking.{ReturnsTyped, TakesArguments}
+use Rattle.reduction.specs.Invoking.{ReturnsTyped}
 use Rattle.reduction.specs.Leading.{Leads, calling, scene}
-use Rattle.validate.specs.Valid.{ValidModule}
 use Rattle.resident.specs.Calls.{AllRefused}
-
-pub start_takes_nothing : (m : Contents) (function : ℕ) → ValidModule m → m.start ≡ Some function → TakesArguments m function []
-start_takes_nothing m function valid is = record {
-  type = record { params = []; results = [] };
-  known = rw is at valid.start;
-  fit = refl;
-}
 
 pub all_refused : {H : Type 0} (trace : List HostCall) (old new : H) → Lawful (λ (a : H) (call : HostCall) (b : H). AnswersMinusOne call × (b ≡ a)) trace old new → AllRefused trace
 all_refused [] old new lawful = tt

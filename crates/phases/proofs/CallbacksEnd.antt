@@ -1,6 +1,6 @@
 -- A callback in slices is over.
 use Rattle.phases.proofs.Words.{ap, begun, calling, Calls, Ended, EntryKind, finished, GuestCall, Halt, Host, IfSome, IsLinked, IsStoreOf, KeepsLoop, Leads}
-use Rattle.phases.proofs.Words.{List, Loaded, Loop, LoopStopsAt, moves, Option, Ran, refl, RunsFrom, scene, Setting, setting_of, State, Store, Value, ℕ, ◌≡◌}
+use Rattle.phases.proofs.Words.{List, Loaded, Loop, LoopStopsAt, moves, Option, Ran, RunsFrom, scene, Setting, setting_of, State, Store, Value, ℕ, ◌≡◌}
 use Rattle.events.specs.Bare.{whole, whole_ending}
 use Rattle.events.specs.declared.ended.BareEnding.{BareEnding}
 use Rattle.events.specs.declared.ended.Ending.{Ending}
@@ -22,7 +22,7 @@ module _ {S : Type 0} (calls : Calls S) (loaded : Loaded) (g : Setting) (mid : L
   stands h = (h.state, h.shared)
 
   pub over_setting : setting_of after.setting ≡ g
-  over_setting = same_setting calls set stands loaded loaded refl g mid keeps before after made reply begins store function args ended stop leads
+  over_setting = same_setting calls set stands loaded g mid keeps before after made reply begins store function args ended stop leads
 
   pub over_stops : IfSome stop (λ sites. ∥ LoopStopsAt calls (setting_of after.setting) store sites ∥₁)
   over_stops = stops_at calls set stands loaded g keeps.same before after made mid.store store function args ended stop leads
@@ -30,9 +30,9 @@ module _ {S : Type 0} (calls : Calls S) (loaded : Loaded) (g : Setting) (mid : L
   module _ (last : State) (e : last ≡ finished after.state ended) where
     pub over_keeps : IsLinked loaded.contents → IsStoreOf loaded.contents store → KeepsLoop loaded (setting_of after.setting) last store
     over_keeps linked fits =
-        rw over_setting (kept_after calls set stands loaded loaded refl g mid keeps before after made reply begins store function args ended stop leads linked fits last e)
+        kept_after calls set stands loaded g mid keeps before after made reply begins store function args ended stop leads linked fits last e
 
     pub over_runs : (kind : EntryKind) (number : ℕ)
         → (calls_made : List GuestCall) × RunsFrom calls g mid kind number function args reply (Ran kind number ended) calls_made
         (record { state = last; store = store; shared = after.shared })
-    over_runs kind number = runs_from calls set stands loaded loaded refl g mid keeps before after made reply begins store function args ended stop leads kind number last e
+    over_runs kind number = runs_from calls set stands loaded g mid keeps before after made reply begins store function args ended stop leads kind number last e

@@ -1,12 +1,12 @@
 -- What a loop keeps as a callback runs, and as entries are taken off its list.
 use Rattle.phases.proofs.Words.{ap, AreOpenedUpTo, AreOrdersOf, AreReady, arith, begin_list, begun, Bool, callback_function, callback_in, callbacks_of, calling}
-use Rattle.phases.proofs.Words.{Calls, CancelIn, codes, Completion, completion_of, cond, Contents, drop, Ended, EntryKind, eqb-true, exports, ExportsFunction}
+use Rattle.phases.proofs.Words.{Calls, CancelIn, codes, Completion, completion_of, cond, Contents, drop, Ended, EntryKind, exports, ExportsFunction}
 use Rattle.phases.proofs.Words.{ExportsNothing, false, finished, first_list, Grows, GuestCall, Halt, handle_function, HasNoResults, HostStep, I32, IfSome}
 use Rattle.phases.proofs.Words.{import_types, in_table, inl, inr, is_alive, is_some, IsLawful, IsLinked, IsOrderOf, IsStoreOf, KeepsLoop, Lawful, Leads, List}
-use Rattle.phases.proofs.Words.{Loaded, Loop, map, MatchBool, MatchOption, MAX_DEPTH, may_end, Names, next_in, next_of, next_order_of, None, not, opening}
-use Rattle.phases.proofs.Words.{opening_roster, Option, option_and_then, option_map, option_map_or, Order, order_of, Over, Ran, Record, record_of, refl}
-use Rattle.phases.proofs.Words.{Request, Requests, Roster, Running, RunsFrom, scene, Setting, slice_get, Some, State, Status, Store, subst, sym, TakesArguments}
-use Rattle.phases.proofs.Words.{true, turn, ValidModule, ValType, Value, with_requests, ℕ, [], ◌&&◌, ◌==◌, ◌∙◌, ◌∷◌, ◌≡◌, ◌≤◌, ◌⊎◌}
+use Rattle.phases.proofs.Words.{Loaded, Loop, map, MatchOption, MAX_DEPTH, may_end, Names, next_in, next_of, next_order_of, None, not, opening, opening_roster}
+use Rattle.phases.proofs.Words.{Option, option_and_then, option_map, option_map_or, Order, order_of, Over, Ran, Record, record_of, refl, Request, Requests}
+use Rattle.phases.proofs.Words.{Roster, Running, RunsFrom, scene, Setting, slice_get, Some, State, Status, Store, subst, sym, TakesArguments, true, turn}
+use Rattle.phases.proofs.Words.{ValidModule, ValType, Value, with_requests, ℕ, [], ◌&&◌, ◌∙◌, ◌∷◌, ◌≡◌, ◌≤◌, ◌⊎◌}
 use Rattle.std.proofs.Common.{Result, Ok, Err, OnOk, IfErr}
 use Rattle.std.proofs.lemmas.Option.{slice_get-map}
 use Rattle.syntax.specs.declared.contents.FuncType.{FuncType}
@@ -146,10 +146,10 @@ module _ (m : Contents) (f n : ℕ) where
   handle_bare r handle same h = (handle_fits r handle same h).1
 
 -- a callback that ran on the host of a loop
-module _ {G S : Type 0} (calls : Calls S) (setting : G → Setting) (standing : G → State × S) (l v : Loaded) (is : v ≡ l) (g : Setting) (old : Loop S)
+module _ {G S : Type 0} (calls : Calls S) (setting : G → Setting) (standing : G → State × S) (l : Loaded) (g : Setting) (old : Loop S)
     (keeps : KeepsLoop l g old.state old.store) (before after : G) (made : setting before ≡ g) (reply : Option (List ℕ))
     (begins : standing before ≡ (begun old.state reply, old.shared)) (t : Store) (function : ℕ) (args : List Value) (ended : Ended)
-    (stop : Option Halt) (h : Leads (Answered calls setting standing) (calling v.contents function args g.fuel g.depth) (scene old.store before) ended stop (scene t after)) where
+    (stop : Option Halt) (h : Leads (Answered calls setting standing) (calling l.contents function args g.fuel g.depth) (scene old.store before) ended stop (scene t after)) where
   answered : Lawful (HostStep calls g) h.asked (begun old.state reply, old.shared) (standing after)
   answered =
       let it = served calls setting standing h.asked before after h.answered in
@@ -166,25 +166,25 @@ module _ {G S : Type 0} (calls : Calls S) (setting : G → Setting) (standing : 
         record {
           ended = ended;
           state = (standing after).0;
-          run = rw (it.1, sym (is ∙ keeps.same)) h.ran;
+          run = rw (it.1, sym keeps.same) h.ran;
           answers = it.2;
           told = refl;
           finished = e;
         },
       )
 
-  pub kept_after : IsLinked v.contents → IsStoreOf v.contents t → (last : State) → last ≡ finished (standing after).0 ended → KeepsLoop l g last t
+  pub kept_after : IsLinked l.contents → IsStoreOf l.contents t → (last : State) → last ≡ finished (standing after).0 ended → KeepsLoop l (setting after) last t
   kept_after linked fits last e =
       let u : State = (standing after).0 in
       let grows : Grows old.state (finished u ended) = grows_on old.state (begun old.state reply) (finished u ended) (grows_begun old.state reply)
       (grows_on (begun old.state reply) u (finished u ended) (trace_grows calls g h.asked (begun old.state reply, old.shared) (standing after) answered) (grows_finished u ended)) in
       let orders : AreOrdersOf g u.requests =
-      orders_run g (rw (is ∙ keeps.same) at linked) keeps.depth calls h.asked (begun old.state reply, old.shared) (standing after) answered keeps.orders in
+      orders_run g (rw keeps.same at linked) keeps.depth calls h.asked (begun old.state reply, old.shared) (standing after) answered keeps.orders in
       let there : KeepsLoop l g (finished u ended) old.store = kept_on l g old.state (finished u ended) old.store keeps grows orders in
-      rw e (record {
+      rw (same_setting, e) (record {
         same = there.same;
         depth = there.depth;
-        store = rw (is ∙ keeps.same) at fits;
+        store = rw keeps.same at fits;
         callbacks = there.callbacks;
         ready = there.ready;
         orders = there.orders;
@@ -222,16 +222,6 @@ pub told_of : (o : Option Request) (t : Completion) (A : Option Completion → T
 told_of None t A h a = absurd h
 told_of (Some r) t A h a = subst A (sym h) a
 
--- an async that is active
-pub active_step : (o : Option ℕ) (handle : ℕ) (active : ℕ → Bool) (T U : ℕ → Type 0) → o ≡ Some handle → active handle ≡ true → T handle → MatchOption o ⊥ (λ h. MatchBool (active h) (T h) (U h))
-active_step None handle active T U is on t = absurd (cc)
-active_step (Some h) handle active T U is on t =
-    let same : handle ≡ h = cc in
-    rw (sym same, on) t
-
-pub none_taken : (count : ℕ) (P Q : Type 0) → count ≡ 0 → P → MatchBool (count == 0) P Q
-none_taken count P Q is p = rw is p
-
 -- a loop that has not failed
 pub next_unfailed : (s : State) → (s.status ≡ Running) ⊎ (s.status ≡ Over) → next_order_of s ≡ ((next_of s.requests).0, with_requests s (next_of s.requests).1)
 next_unfailed s (inl e) = ap (λ status. next_in status s) e
@@ -263,17 +253,8 @@ kept_new l g s t same depth fits is =
       orders = λ i d h. absurd (omega arith);
     })
 
-pub some_taken : (count : ℕ) (P Q : Type 0) → (count ≡ 0 → ⊥) → Q → MatchBool (count == 0) P Q
-some_taken count P Q more q = chosen (count == 0) refl where
-  chosen : (b : Bool) → (count == 0) ≡ b → MatchBool b P Q
-  chosen true is = absurd (more (eqb-true count 0 is))
-  chosen false is = q
-
 pub called : (o : Option ℕ) (f : ℕ) (P : ℕ → Type 0) → o ≡ Some f → P f → MatchOption o ⊥ P
 called o f P is h = rw is h
-
-pub same_some : (o : Option ℕ) (a b : ℕ) → o ≡ Some a → o ≡ Some b → a ≡ b
-same_some o a b h k = cc
 
 -- what is handed out is an order of the loop
 pub own_order : (g : Setting) (s : State) (o : Option Order) → option_map order_of o ≡ (next_order_of s).0 → AreOrdersOf g s.requests → IfSome o (λ x. IsOrderOf g (order_of x))

@@ -30,14 +30,19 @@ is_lowest : (rs : Requests) → AreKept rs → (q : Request) → lowest_open rs 
 is_lowest rs kept q found k d below opens =
     first_is_lowest (λ r. is_open_stage r.stage) 0 rs.last rs.outstanding q k (get_or rs.outstanding k d) kept.rising found (slice_get-get_or rs.outstanding k d below) opens
 
-pub lowest_next : (rs : Requests) → AreKept rs → (o : Option Order) → option_map order_of o ≡ (next_of rs).0 → IfSome o (λ x. IsLowestOpen x.request rs)
-lowest_next rs kept o is = by (lowest_open rs) refl o is where
-  by : (found : Option Request) → lowest_open rs ≡ found → (o : Option Order) → option_map order_of o ≡ (handing rs found).0 → IfSome o (λ x. IsLowestOpen x.request rs)
+-- what holds of that number holds of the order that is handed out
+of_next : (rs : Requests) (P : ℕ → Type 0) → ((q : Request) → lowest_open rs ≡ Some q → P q.order.request) → (o : Option Order)
+    → option_map order_of o ≡ (next_of rs).0 → IfSome o (λ x. P x.request)
+of_next rs P f o is = by (lowest_open rs) refl o is where
+  by : (found : Option Request) → lowest_open rs ≡ found → (o : Option Order) → option_map order_of o ≡ (handing rs found).0 → IfSome o (λ x. P x.request)
   by found e None is = tt
   by None e (Some x) is = absurd (cc)
   by (Some q) e (Some x) is =
       let same : order_of x ≡ q.order = cc in
-      rw (ap (λ w. w.request) (sym same)) at (is_lowest rs kept q e)
+      rw (ap (λ w. w.request) (sym same)) at (f q e)
+
+pub lowest_next : (rs : Requests) → AreKept rs → (o : Option Order) → option_map order_of o ≡ (next_of rs).0 → IfSome o (λ x. IsLowestOpen x.request rs)
+lowest_next rs kept = of_next rs (λ n. IsLowestOpen n rs) (is_lowest rs kept)
 
 -- and it is numbered from 1
 found_above : (p : Request → Bool) (low high : ℕ) (xs : List Request) (q : Request) → AreRising low (map number_of xs) high → find p xs ≡ Some q → low < number_of q
@@ -50,10 +55,4 @@ found_above p low high (x ∷ xs) q rising found =
     ] found
 
 pub number_next : (rs : Requests) → AreKept rs → (o : Option Order) → option_map order_of o ≡ (next_of rs).0 → IfSome o (λ x. 0 < x.request)
-number_next rs kept o is = by (lowest_open rs) refl o is where
-  by : (found : Option Request) → lowest_open rs ≡ found → (o : Option Order) → option_map order_of o ≡ (handing rs found).0 → IfSome o (λ x. 0 < x.request)
-  by found e None is = tt
-  by None e (Some x) is = absurd (cc)
-  by (Some q) e (Some x) is =
-      let same : order_of x ≡ q.order = cc in
-      rw (ap (λ w. w.request) (sym same)) at (found_above (λ r. is_open_stage r.stage) 0 rs.last rs.outstanding q kept.rising e)
+number_next rs kept = of_next rs (λ n. 0 < n) (λ q e. found_above (λ r. is_open_stage r.stage) 0 rs.last rs.outstanding q kept.rising e)

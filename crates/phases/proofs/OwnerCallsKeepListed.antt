@@ -1,10 +1,11 @@
 -- No call of a loop's owner takes away what the loop has listed.
-use Rattle.phases.proofs.Words.{after_clock, Answered, answered, ap, AreKept, begun, Calls, CancelIn, Cancelled, cases_eq, cond, Ended, eqb-true, Failed, false}
-use Rattle.phases.proofs.Words.{find, finished, Grows, HandedOut, handing, has_number, in_stage, inl, inr, is_open_stage, is_settled, List, lowest_open, map}
-use Rattle.phases.proofs.Words.{next_in, next_of, next_order_of, None, Open, Option, Over, refl, Request, Requests, Running, Some, Stage, State, Status, subst}
-use Rattle.phases.proofs.Words.{sym, true, with_requests, WorkEnd, WorkOrder, ℕ, [], ◌∙◌, ◌∷◌, ◌≡◌, ◌≢◌}
+use Rattle.phases.proofs.Words.{Answered, answered, ap, AreKept, begun, Calls, CancelIn, Cancelled, cases_eq, cond, Ended, eqb-true, Failed, false, find}
+use Rattle.phases.proofs.Words.{finished, Grows, HandedOut, handing, has_number, in_stage, inl, inr, is_open_stage, is_settled, List, lowest_open, map, next_in}
+use Rattle.phases.proofs.Words.{next_of, next_order_of, None, Open, Option, Over, refl, Request, Requests, Running, Some, Stage, State, Status, subst, sym}
+use Rattle.phases.proofs.Words.{true, with_requests, WorkEnd, WorkOrder, ℕ, [], ◌∙◌, ◌∷◌, ◌≡◌, ◌≢◌}
 use Rattle.std.proofs.lemmas.List.Folds.{find_at}
 use Rattle.std.specs.List.{position_or_len}
+use Rattle.phases.specs.Outside.{after_clock}
 use Rattle.phases.proofs.RequestsRise.{number_of, found_passes, at_all}
 use Rattle.phases.proofs.PhaseListsAreReady.{found_by_number, IsFoundIn}
 use Rattle.phases.proofs.CancelFates.{CancelMoves, wins, leaves, moves_of}

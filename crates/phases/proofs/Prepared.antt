@@ -1,10 +1,10 @@
 -- What a step comes to before its callback runs.
-use Rattle.phases.proofs.Words.{Bool, Calls, Contents, EntryKind, false, GuestCall, HasNoResults, is_alive, List, Loop, MatchBool, may_end, None, not, Prepares}
-use Rattle.phases.proofs.Words.{RanNone, refl, RunsFrom, Setting, State, StepDid, subst, sym, TakesArguments, true, turn, Value, whole_did, ℕ, [], ◌&&◌, ◌≡◌}
-use Rattle.phases.specs.declared.callback.Prepared.{Prepared}
-use Rattle.phases.specs.declared.callback.Prepared.TheVariants.{Did, Runs}
-use Rattle.phases.specs.declared.did.BareDid.{BareDid}
-use Rattle.phases.specs.Inner.Preparing.{CanRunIn}
+use Rattle.phases.proofs.Words.{Bool, Calls, Contents, Entry, EntryKind, EntryStep, false, GuestCall, HasNoResults, is_alive, List, Loop, may_end}
+use Rattle.phases.proofs.Words.{None, not, Prepared, Prepares, RanNone, refl, Setting, State, StepDid, subst, sym, TakesArguments, true, turn, Value}
+use Rattle.phases.proofs.Words.{ℕ, ◌&&◌, ◌≡◌}
+use Rattle.phases.specs.declared.callback.Prepared.TheVariants.{Runs}
+use Rattle.phases.specs.Inner.Preparing.{CanRunIn, LeavesFront}
+use Rattle.phases.specs.Step.{ListStep}
 
 -- a callback that may read nothing
 abbrev pub unread : EntryKind → (number function : ℕ) → List Value → Prepared
@@ -14,17 +14,6 @@ module _ (kind : EntryKind) (number function : ℕ) (args : List Value) (p : Pre
   pub fits : (m : Contents) → TakesArguments m function args → HasNoResults m function → CanRunIn m p
   fits m takes bare = subst (CanRunIn m) (sym is) (record { takes = takes; bare = bare; short = tt })
 
-  pub prepares : {S : Type 0} (calls : Calls S) (g : Setting) (step : StepDid → List GuestCall → Loop S → Type 0) (mid : Loop S)
-      → ((did : StepDid) (made : List GuestCall) (new : Loop S) → RunsFrom calls g mid kind number function args None did made new → step did made new)
-      → Prepares calls g step p mid
-  prepares calls g step mid leads = rw is leads
-
--- no callback runs
-module _ (did : BareDid) (p : Prepared) (is : p ≡ Did did) where
-  pub prepares_did : {S : Type 0} (calls : Calls S) (g : Setting) (step : StepDid → List GuestCall → Loop S → Type 0) (mid : Loop S)
-      → step (whole_did did) [] mid → Prepares calls g step p mid
-  prepares_did calls g step mid h = rw is h
-
 -- as a list is used up, no callback runs
 pub turn_ran_none : (s : State) → RanNone (turn s).0
 turn_ran_none s = by_end (may_end s.phase && not (is_alive s)) refl where
@@ -32,8 +21,10 @@ turn_ran_none s = by_end (may_end s.phase && not (is_alive s)) refl where
   by_end true e = rw e tt
   by_end false e = rw e tt
 
-pub when : (b : Bool) (P Q : Type 0) → b ≡ true → P → MatchBool b P Q
-when b P Q is h = rw is h
+-- what an entry at the front does is what the step does
+module _ {S : Type 0} (calls : Calls S) (g : Setting) {m : Contents} {old mid : Loop S} {e : Entry} (h : LeavesFront m old e mid) where
+  pub by_front : (did : StepDid) (made : List GuestCall) (new : Loop S) → EntryStep calls g mid e did made new → ListStep calls g old old.state.list did made new
+  by_front did made new step = rw h.front (rw h.left at step)
 
-pub unless : (b : Bool) (P Q : Type 0) → b ≡ false → Q → MatchBool b P Q
-unless b P Q is h = rw is h
+  pub prepared_by_front : (p : Prepared) (new : Loop S) → Prepares calls g (EntryStep calls g mid e) p new → Prepares calls g (ListStep calls g old old.state.list) p new
+  prepared_by_front p new step = rw h.front (rw h.left at step)

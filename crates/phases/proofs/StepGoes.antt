@@ -1,16 +1,16 @@
 -- How one step of a loop goes over its object, and what makes it a step over another.
 use Rattle.phases.proofs.Words.{after_again, AfterWork, ap, async_handle, Bool, Calls, CallsHandle, Completion, completion_of, cond, Ended, Entry, EntryKind}
-use Rattle.phases.proofs.Words.{EntryStep, Failed, false, GuestCall, handle_function, I32, in_state, is_active_handle, is_alive, is_as_listed, List, ListStep}
-use Rattle.phases.proofs.Words.{Loop, MatchBool, MatchOption, may_end, None, not, Option, Over, over, phase_entered, Ran, refl, Request, request_of, Running}
-use Rattle.phases.proofs.Words.{RunsFrom, Setting, sharing, Skips, Some, State, Status, StepDid, StepsWith, TakesFirst, true, turn, Value, with_handles}
-use Rattle.phases.proofs.Words.{with_roster, without_handle, ℕ, [], ◌&&◌, ◌==◌, ◌∙◌, ◌∷◌, ◌≡◌}
+use Rattle.phases.proofs.Words.{EntryStep, Failed, false, GuestCall, handle_function, I32, in_state, is_active_handle, is_alive, is_as_listed, List, Loop}
+use Rattle.phases.proofs.Words.{MatchBool, MatchOption, may_end, None, not, Option, Over, over, phase_entered, Ran, refl, Request, request_of, Running}
+use Rattle.phases.proofs.Words.{RunsFrom, Setting, sharing, Skips, Some, State, Status, StepDid, StepsWith, true, turn, Value, with_handles, with_roster}
+use Rattle.phases.proofs.Words.{without_handle, ℕ, [], ◌&&◌, ◌==◌, ◌∙◌, ◌∷◌, ◌≡◌}
 use Rattle.handles.specs.declared.handle.Kind.TheVariants as handle_kind
 use Rattle.events.specs.declared.did.StepDid.TheVariants.{Entered}
 use Rattle.events.specs.declared.did.StepDid.TheVariants as step
 use Rattle.events.specs.declared.phase.EntryKind.TheVariants as kind
 use Rattle.events.specs.Phases.{next_phase}
 use Rattle.phases.specs.declared.entry.Entry.TheVariants as entry
-use Rattle.phases.specs.Step.{StepIn, CallsBack, now_in}
+use Rattle.phases.specs.Step.{StepIn, ListStep, CallsBack, TakesFirst, now_in}
 
 -- what a step tells of an after-work callback
 abbrev pub after_of : StepDid → Option ℕ

@@ -37,7 +37,7 @@ pub use Rattle.phases.specs.Inner.Preparing.{Prepares}
 pub use Rattle.phases.specs.Inner.Stage.{completion_in}
 pub use Rattle.phases.specs.Keeping.{AreOrdersOf, IsOrderOf, KeepsLoop}
 pub use Rattle.phases.specs.Laws.{asks_for, is_number, is_queue_work, IsCancel, WasAsked}
-pub use Rattle.phases.specs.Outside.{after_clock, answered, CancelIn, handing, IsOneOf, next_in, next_of, next_order_of, RequestIn}
+pub use Rattle.phases.specs.Outside.{answered, CancelIn, handing, IsOneOf, next_in, next_of, next_order_of, RequestIn}
 pub use Rattle.phases.specs.PhaseList.{active_asyncs, active_from, begin_list, exports, first_list, handle_entry, is_active_handle, is_alive, is_empty}
 pub use Rattle.phases.specs.Ready.{AreApart, AreReady, Grows, IsReady, IsSettledIn, Spares}
 pub use Rattle.phases.specs.Requests.{Answered, cancellation, Cancelled, Completion, completion_of, end_completion, HandedOut, has_number, in_stage}
@@ -47,12 +47,13 @@ pub use Rattle.phases.specs.Roster.{async_handle, callback_function, callback_in
 pub use Rattle.phases.specs.Roster.{unless_handle, with_async, with_handles, with_made, without_handle}
 pub use Rattle.phases.specs.Settings.{setting_of}
 pub use Rattle.phases.specs.State.{Core, Loop, opening, Setting, State}
-pub use Rattle.phases.specs.Step.{AfterWork, begun, CallsHandle, EntryStep, finished, handle_function, in_state, is_as_listed, ListStep, over, phase_entered}
-pub use Rattle.phases.specs.Step.{RanNone, RunsFrom, sharing, Skips, StepsWith, TakesFirst, turn}
+pub use Rattle.phases.specs.Step.{AfterWork, begun, CallsHandle, EntryStep, finished, handle_function, in_state, is_as_listed, over, phase_entered, RanNone}
+pub use Rattle.phases.specs.Step.{RunsFrom, sharing, Skips, StepsWith, turn}
 pub use Rattle.phases.specs.Stopping.{LoopStopsAt}
 pub use Rattle.phases.specs.Underway.{Host, moves}
 pub use Rattle.phases.specs.View.{AreOpenedUpTo, View}
 pub use Rattle.phases.specs.contracts.roster.Roster.{the_view}
+pub use Rattle.phases.specs.declared.callback.Prepared.{Prepared}
 pub use Rattle.phases.specs.declared.entry.Entry.{Entry}
 pub use Rattle.phases.specs.declared.entry.Entry.TheVariants.{Async}
 pub use Rattle.phases.specs.declared.entry.Status.{Status}

@@ -1,11 +1,46 @@
 // A callback that is about to run.
 
-ghost use Rattle.std.specs.Prelude.{◌≡◌, [], ◌∷◌, None};
+ghost use Rattle.std.specs.Prelude.{◌≡◌, ◌≤◌, [], ◌∷◌, take, None};
 
 use crate::did::BareDid;
 use events::phase::EntryKind;
-use events::values::Values;
+use std::marker::Model;
 use syntax::types::Value;
+
+/// What a callback is given: 0 to 3 values. `Values` has room for more, which each step would fill and copy.
+#[derive(Drop)]
+pub(crate) struct CallbackArgs {
+    items: [Value; 3],
+    count: usize,
+}
+
+impl Model for CallbackArgs {
+    ghost use Rattle.std.specs.Prelude.{List, take, ◌≤◌};
+    ghost use Rattle.syntax.specs.declared.types.Value.{Value as Item};
+
+    ghost Value = { List Item };
+
+    ghost view = { λ a. take a.count a.items };
+
+    ghost invariant = { λ a. a.count ≤ 3 };
+}
+
+impl CallbackArgs {
+    /// The first of these values.
+    pub(crate) fn first(count: usize, items: [Value; 3]) -> CallbackArgs
+        requires { count ≤ 3 }
+        ensures { result ≡ take count items }
+    {
+        CallbackArgs { items, count }
+    }
+
+    /// The values, the first first.
+    pub(crate) fn as_slice(&self) -> &[Value]
+        ensures { result.now ≡ self.now }
+    {
+        &self.items[..self.count]
+    }
+}
 
 /// A callback that is about to run: what its step is told of it, which function with which arguments, and the bytes that it may
 /// read.
@@ -13,7 +48,7 @@ pub(crate) struct PreparedCallback {
     pub(crate) kind: EntryKind,
     pub(crate) number: u32,
     pub(crate) function: u32,
-    pub(crate) args: Values,
+    pub(crate) args: CallbackArgs,
     pub(crate) reply: Option<Vec<u8>>,
 }
 
@@ -34,7 +69,7 @@ impl Prepared {
             kind,
             number: 0,
             function,
-            args: Values::empty(),
+            args: CallbackArgs::first(0, [Value::I32(0); 3]),
             reply: None,
         })
     }
@@ -47,7 +82,7 @@ impl Prepared {
             kind,
             number: handle,
             function,
-            args: Values::from_slice(&[Value::I32(handle)]),
+            args: CallbackArgs::first(1, [Value::I32(handle), Value::I32(0), Value::I32(0)]),
             reply: None,
         })
     }

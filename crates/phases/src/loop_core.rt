@@ -1,43 +1,40 @@
 //! One event loop.
 
-ghost use Rattle.std.specs.Prelude.{◌≡◌, ◌↔◌, ◌≤◌, ℕ, List, [], ◌∷◌, Some, None, true, false, All, codes, length, ◌<◌, MatchBool, IsTrue, IfOk, IfSome, option_map};
+ghost use Rattle.std.specs.Prelude.{◌≡◌, ◌↔◌, ◌≤◌, List, false, codes, length, ◌<◌, IsTrue, IfOk, IfSome, option_map};
 ghost use Rattle.std.proofs.Props.{props};
 ghost use Rattle.std.specs.Arc.{arc_value};
 ghost use Rattle.std.specs.Int.{w32, cast_unsigned};
 ghost use Rattle.limits.specs.declared.TheConstants.{MAX_ASYNCS, MAX_DEPTH, MAX_EMITS, MAX_REQUESTS};
-ghost use Rattle.reduction.specs.Invoking.{TakesArguments, HasNoResults};
-ghost use Rattle.imports.specs.Linking.{ExportsFunction};
 ghost use Rattle.instance.specs.Fresh.{IsFresh};
 ghost use Rattle.order.specs.Orders.{order_of};
-ghost use Rattle.phases.specs.Fitting.{AllRight, IsShort};
+ghost use Rattle.phases.specs.Fitting.{AllRight};
 ghost use Rattle.phases.specs.Accepting.{Accepts};
 ghost use Rattle.phases.specs.Outside.{after_clock, is_failed, next_order_of, CancelsLoop, RequestsLoop, StartsBeside, SendsBeside, PostsLoop};
 ghost use Rattle.phases.specs.Guests.{GuestCall};
+ghost use Rattle.phases.specs.Inner.Preparing.{CanCallBack, RunsCallback};
 ghost use Rattle.order.specs.Runnable.{CanRun};
 ghost use Rattle.phases.specs.PhaseList.{begin_list, hint_of, is_alive, IsAlive, IsHint};
 ghost use Rattle.phases.specs.Bare.{whole_did};
 ghost use Rattle.phases.specs.Keeping.{KeepsLoop};
-ghost use Rattle.phases.specs.Ready.{IsReady, Spares};
 ghost use Rattle.phases.specs.Settings.{setting_of};
 ghost use Rattle.phases.specs.Requests.{IsLowestOpen};
 ghost use Rattle.phases.specs.Roster.{opening_roster};
 ghost use Rattle.phases.specs.State.{opening};
-ghost use Rattle.phases.specs.Step.{LoopStep, ListStep, EntryStep, CallsBack, CallsHandle, RunsFrom, Skips, TakesFirst, AfterWork, is_as_listed};
+ghost use Rattle.phases.specs.Step.{ListStep, LoopStep};
 ghost use Rattle.phases.specs.Stopping.{LoopStopsAt};
 ghost use Rattle.phases.specs.View.{new_view};
 
+use crate::callback::{Prepared, PreparedCallback};
 use crate::did::BareDid;
-use crate::entry::{Entry, Status};
+use crate::entry::Status;
 use crate::loop_host::LoopHost;
 use crate::opening::opened;
 use crate::setting::Setting;
 use crate::shared::{Beside, Posting, Shared};
 use events::did::{Hint, StepDid};
 use events::ended::Ended;
-use events::phase::EntryKind;
 use events::settings::LoopSettings;
-use handles::Kind;
-use imports::{EntryPoint, Linked};
+use imports::Linked;
 use instance::stack::{CallStack, Stop};
 use instance::state::State;
 use interp::call::FunctionCall;
@@ -47,7 +44,6 @@ use order::{Order, Reply};
 use std::alloc::{AllocError, Global};
 use std::marker::Model;
 use std::sync::Arc;
-use syntax::types::Value;
 
 /// What became of a reply that was offered to a loop.
 #[derive(Drop)]
@@ -169,188 +165,40 @@ impl<B: Shared + Drop> LoopCore<B> {
         }
     }
 
+    /// Each arm returns by itself, as in `BareDid::whole`.
     #[inline(always)]
     fn go_on(&mut self) -> BareDid
         ensures step { (made : List GuestCall) × ListStep B.calls self.old.setting self.old.loop self.old.loop.state.list (whole_did result) made self.new.loop }
         ensures setting { self.new.setting ≡ self.old.setting }
     {
-        let Some(entry) = self.host.state.front() else {
-            return self.host.state.turn();
+        let Some(entry) = self.take_front() else {
+            return self.turn();
         };
-        self.host.state.pop();
-        self.run(entry)
-    }
-
-    /// Runs an entry that was taken off the list. Here and below each arm returns by itself, as in `BareDid::whole`.
-    fn run(&mut self, entry: Entry) -> BareDid
-        requires ready { IsReady self.old.setting.loaded.contents self.old.loop.state entry }
-        requires apart { All (Spares entry) self.old.loop.state.list }
-        ensures step { (made : List GuestCall) × EntryStep B.calls self.old.setting self.old.loop entry (whole_did result) made self.new.loop }
-        ensures setting { self.new.setting ≡ self.old.setting }
-    {
-        match entry {
-            Entry::Start => return self.run_start(),
-            Entry::Main => return self.run_main(),
-            Entry::Timer { handle, start } => return self.run_timer(handle, start),
-            Entry::Idle { handle, start } => {
-                return self.run_listed(Kind::Idle, EntryKind::Idle, handle, start);
-            }
-            Entry::Check { handle, start } => {
-                return self.run_listed(Kind::Check, EntryKind::Check, handle, start);
-            }
-            Entry::After { request } => return self.run_after_work(request),
-            Entry::Async { async_no } => return self.run_async(async_no),
-            Entry::Close { handle } => return self.run_close(handle),
+        match self.prepare_entry(entry) {
+            Prepared::Did(did) => return did,
+            Prepared::Runs(callback) => return self.call(callback),
         }
     }
 
-    #[tactic(auto, using(crate::proofs::LoopsKeep::start_bare))]
-    fn run_start(&mut self) -> BareDid
-        requires ready { IsReady self.old.setting.loaded.contents self.old.loop.state Entry.Start }
-        ensures step { (made : List GuestCall) × EntryStep B.calls self.old.setting self.old.loop Entry.Start (whole_did result) made self.new.loop }
+    fn call(&mut self, callback: PreparedCallback) -> BareDid
+        requires { CanCallBack self.old.setting.loaded.contents callback }
+        ensures run { (made : List GuestCall) × RunsCallback B.calls self.old.setting self.old.loop callback (whole_did result) made self.new.loop }
         ensures setting { self.new.setting ≡ self.old.setting }
     {
-        let Some(function) = self.linked.valid().contents().start else {
-            unreachable!();
-        };
-        self.call(EntryKind::Start, 0, function, &[], None)
-    }
-
-    fn run_main(&mut self) -> BareDid
-        requires ready { IsReady self.old.setting.loaded.contents self.old.loop.state Entry.Main }
-        ensures step { (made : List GuestCall) × EntryStep B.calls self.old.setting self.old.loop Entry.Main (whole_did result) made self.new.loop }
-        ensures setting { self.new.setting ≡ self.old.setting }
-    {
-        let Some(function) = self.linked.entry(EntryPoint::Main) else {
-            unreachable!();
-        };
-        self.call(EntryKind::Main, 0, function, &[], None)
-    }
-
-    fn run_timer(&mut self, handle: u32, start: u64) -> BareDid
-        ensures step { (made : List GuestCall) × EntryStep B.calls self.old.setting self.old.loop (Entry.Timer handle start) (whole_did result) made self.new.loop }
-        ensures setting { self.new.setting ≡ self.old.setting }
-    {
-        match self.host.state.fire(handle, start) {
-            Some(function) => return self.call_handle(EntryKind::Timer, handle, function),
-            None => {
-                return BareDid::Skipped {
-                    kind: EntryKind::Timer,
-                    number: handle,
-                };
-            }
-        }
-    }
-
-    /// An idle or a check handle.
-    fn run_listed(&mut self, listed: Kind, kind: EntryKind, handle: u32, start: u64) -> BareDid
-        ensures step { (made : List GuestCall) × MatchBool (is_as_listed listed self.old.loop.state.roster handle start)
-            (CallsHandle B.calls self.old.setting self.old.loop self.old.loop.state.roster kind handle (whole_did result) made self.new.loop)
-            (Skips B.calls self.old.setting self.old.loop kind handle (whole_did result) made self.new.loop) }
-        ensures setting { self.new.setting ≡ self.old.setting }
-    {
-        match self.host.state.listed_function(listed, handle, start) {
-            Some(function) => return self.call_handle(kind, handle, function),
-            None => {
-                return BareDid::Skipped {
-                    kind,
-                    number: handle,
-                };
-            }
-        }
-    }
-
-    fn run_after_work(&mut self, request: u32) -> BareDid
-        requires ready { IsReady self.old.setting.loaded.contents self.old.loop.state (Entry.After request) }
-        requires apart { All (Spares (Entry.After request)) self.old.loop.state.list }
-        ensures step { (made : List GuestCall) × EntryStep B.calls self.old.setting self.old.loop (Entry.After request) (whole_did result) made self.new.loop }
-        ensures setting { self.new.setting ≡ self.old.setting }
-    {
-        let Some(function) = self.linked.entry(EntryPoint::AfterWork) else {
-            unreachable!();
-        };
-        let completion = self.host.state.take_request(self.host.alloc, request);
-        let args = [
-            Value::I32(request),
-            Value::I32(completion.kind),
-            Value::I32(completion.code),
-        ];
-        self.call(
-            EntryKind::After,
-            request,
+        let PreparedCallback {
+            kind,
+            number,
             function,
-            &args,
-            Some(completion.bytes),
-        )
-    }
-
-    /// What waits at the async is taken first; where that is nothing, no callback runs.
-    fn run_async(&mut self, async_no: u32) -> BareDid
-        requires ready { IsReady self.old.setting.loaded.contents self.old.loop.state (Entry.Async async_no) }
-        ensures step { (made : List GuestCall) × EntryStep B.calls self.old.setting self.old.loop (Entry.Async async_no) (whole_did result) made self.new.loop }
-        ensures setting { self.new.setting ≡ self.old.setting }
-    {
-        let Some(handle) = self.host.state.async_at(async_no) else {
-            unreachable!();
-        };
-        let kind = EntryKind::Async;
-        let Some((_, function)) = self.host.state.active_async(async_no) else {
-            return BareDid::Skipped {
-                kind,
-                number: handle,
-            };
-        };
-        if self.host.shared.take(async_no) == 0 {
-            return BareDid::Skipped {
-                kind,
-                number: handle,
-            };
-        }
-        self.call_handle(kind, handle, function)
-    }
-
-    /// The handle is removed first.
-    fn run_close(&mut self, handle: u32) -> BareDid
-        requires ready { IsReady self.old.setting.loaded.contents self.old.loop.state (Entry.Close handle) }
-        requires apart { All (Spares (Entry.Close handle)) self.old.loop.state.list }
-        ensures step { (made : List GuestCall) × EntryStep B.calls self.old.setting self.old.loop (Entry.Close handle) (whole_did result) made self.new.loop }
-        ensures setting { self.new.setting ≡ self.old.setting }
-    {
-        let function = self.host.state.finish_closing(handle);
-        self.call_handle(EntryKind::Close, handle, function)
-    }
-
-    /// A handle's callback is given its number.
-    fn call_handle(&mut self, kind: EntryKind, handle: u32, function: u32) -> BareDid
-        requires callback { TakesArguments self.old.setting.loaded.contents function (Value.I32 handle ∷ []) }
-        requires bare { HasNoResults self.old.setting.loaded.contents function }
-        ensures run { (made : List GuestCall) × RunsFrom B.calls self.old.setting self.old.loop kind handle function (Value.I32 handle ∷ []) None (whole_did result) made self.new.loop }
-        ensures setting { self.new.setting ≡ self.old.setting }
-    {
-        self.call(kind, handle, function, &[Value::I32(handle)], None)
-    }
-
-    fn call(
-        &mut self,
-        kind: EntryKind,
-        number: u32,
-        function: u32,
-        args: &[Value],
-        reply: Option<Vec<u8>>,
-    ) -> BareDid
-        requires takes { TakesArguments self.old.setting.loaded.contents function args.now }
-        requires bare { HasNoResults self.old.setting.loaded.contents function }
-        requires short { IsShort (option_map (λ v. v.items) reply) }
-        ensures run { (made : List GuestCall) × RunsFrom B.calls self.old.setting self.old.loop kind number function args.now (option_map (λ v. v.items) reply) (whole_did result) made self.new.loop }
-        ensures setting { self.new.setting ≡ self.old.setting }
-    {
+            args,
+            reply,
+        } = callback;
         self.host.state.begin_callback(reply);
         let LoopSettings { fuel, depth, .. } = self.host.setting.settings;
         imports_are_named(&self.linked);
         let valid = self.linked.valid();
         let call = FunctionCall {
             function,
-            args,
+            args: args.as_slice(),
             fuel,
             depth,
         };

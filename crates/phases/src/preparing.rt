@@ -1,17 +1,17 @@
 // A step as far as it comes before its callback runs.
 
-ghost use Rattle.std.specs.Prelude.{◌≡◌, All, MatchBool};
-ghost use Rattle.phases.specs.Inner.Preparing.{Prepares, CanRunIn};
+ghost use Rattle.std.specs.Prelude.{◌≡◌, [], All, IfNone, IfSome, MatchBool};
+ghost use Rattle.phases.specs.Bare.{whole_did};
+ghost use Rattle.phases.specs.Inner.Preparing.{Prepares, CanRunIn, LeavesFront};
 ghost use Rattle.phases.specs.Ready.{IsReady, Spares};
-ghost use Rattle.phases.specs.Step.{StepsWith, ListStep, EntryStep, CallsHandle, Skips, is_as_listed};
+ghost use Rattle.phases.specs.Step.{StepsWith, ListStep, NextPhase, EntryStep, CallsHandle, RanNone, Skips, is_as_listed};
 
-use crate::callback::{Prepared, PreparedCallback};
+use crate::callback::{CallbackArgs, Prepared, PreparedCallback};
 use crate::did::BareDid;
 use crate::entry::{Entry, Status};
 use crate::loop_core::LoopCore;
 use crate::shared::Shared;
 use events::phase::EntryKind;
-use events::values::Values;
 use handles::Kind;
 use imports::EntryPoint;
 use syntax::types::Value;
@@ -35,14 +35,39 @@ impl<B: Shared + Drop> LoopCore<B> {
         ensures fits { CanRunIn self.old.setting.loaded.contents result }
         ensures setting { self.new.setting ≡ self.old.setting }
     {
-        let Some(entry) = self.host.state.front() else {
-            return Prepared::Did(self.host.state.turn());
+        let Some(entry) = self.take_front() else {
+            return Prepared::Did(self.turn());
         };
-        self.host.state.pop();
         self.prepare_entry(entry)
     }
 
-    fn prepare_entry(&mut self, entry: Entry) -> Prepared
+    /// Takes the front entry off the list.
+    #[inline(always)]
+    pub(crate) fn take_front(&mut self) -> Option<Entry>
+        ensures front { IfSome result (λ entry. LeavesFront self.old.setting.loaded.contents self.old.loop entry self.new.loop) }
+        ensures none { IfNone result ((self.new.loop ≡ self.old.loop) × (self.old.loop.state.list ≡ [])) }
+        ensures setting { self.new.setting ≡ self.old.setting }
+    {
+        let Some(entry) = self.host.state.front() else {
+            return None;
+        };
+        self.host.state.pop();
+        Some(entry)
+    }
+
+    /// The list is used up: the loop is over, or enters the next phase.
+    #[inline(always)]
+    pub(crate) fn turn(&mut self) -> BareDid
+        requires empty { self.old.loop.state.list ≡ [] }
+        ensures step { NextPhase B.calls self.old.setting self.old.loop (whole_did result) [] self.new.loop }
+        ensures none { RanNone (whole_did result) }
+        ensures setting { self.new.setting ≡ self.old.setting }
+    {
+        self.host.state.turn()
+    }
+
+    /// Each arm returns by itself, as in `BareDid::whole`.
+    pub(crate) fn prepare_entry(&mut self, entry: Entry) -> Prepared
         requires ready { IsReady self.old.setting.loaded.contents self.old.loop.state entry }
         requires apart { All (Spares entry) self.old.loop.state.list }
         ensures step { Prepares B.calls self.old.setting (EntryStep B.calls self.old.setting self.old.loop entry) result self.new.loop }
@@ -132,7 +157,7 @@ impl<B: Shared + Drop> LoopCore<B> {
             kind: EntryKind::After,
             number: request,
             function,
-            args: Values::from_slice(&args),
+            args: CallbackArgs::first(3, args),
             reply: Some(completion.bytes),
         })
     }
@@ -148,13 +173,13 @@ impl<B: Shared + Drop> LoopCore<B> {
             unreachable!();
         };
         let kind = EntryKind::Async;
-        let Some((_, function)) = self.host.state.active_async(async_no) else {
+        let Some((active, function)) = self.host.state.active_async(async_no) else {
             return Prepared::skipped(kind, handle);
         };
         if self.host.shared.take(async_no) == 0 {
-            return Prepared::skipped(kind, handle);
+            return Prepared::skipped(kind, active);
         }
-        Prepared::of_handle(kind, handle, function)
+        Prepared::of_handle(kind, active, function)
     }
 
     /// The handle is removed first.

@@ -1,5 +1,5 @@
 -- What a step comes to before its callback runs.
-use Rattle.std.specs.Prelude.{List, []}
+use Rattle.std.specs.Prelude.{◌≡◌, List, [], ◌∷◌, All, drop}
 use Rattle.std.specs.Option.{option_map}
 use Rattle.syntax.specs.declared.contents.Contents.{Contents}
 use Rattle.reduction.specs.Invoking.{TakesArguments, HasNoResults}
@@ -11,8 +11,10 @@ use Rattle.phases.specs.Bare.{whole_did}
 use Rattle.phases.specs.Calls.{Calls}
 use Rattle.phases.specs.Fitting.{IsShort}
 use Rattle.phases.specs.Guests.{GuestCall}
+use Rattle.phases.specs.Ready.{IsReady, Spares}
+use Rattle.phases.specs.declared.entry.Entry.{Entry}
 use Rattle.phases.specs.State.{Setting, Loop}
-use Rattle.phases.specs.Step.{RunsFrom, RanNone}
+use Rattle.phases.specs.Step.{RunsFrom, RanNone, in_state}
 
 -- a function of the module that takes the arguments, has no results, and may read few bytes
 pub record CanCallBack (m : Contents) (c : PreparedCallback) : Type 0 where
@@ -34,3 +36,11 @@ module _ {S : Type 0} (calls : Calls S) (g : Setting) where
   abbrev pub Prepares : (step : StepDid → List GuestCall → Loop S → Type 0) → Prepared → Loop S → Type 0
   Prepares step (Did did) mid = step (whole_did did) [] mid
   Prepares step (Runs c) mid = (did : StepDid) (made : List GuestCall) (new : Loop S) → RunsCallback mid c did made new → step did made new
+
+module _ {S : Type 0} where
+  -- The entry is taken off the front of the list. What it names is there, and it takes away nothing that the rest needs.
+  pub record LeavesFront (m : Contents) (old : Loop S) (e : Entry) (new : Loop S) : Type 0 where
+    pub front : old.state.list ≡ e ∷ drop 1 old.state.list
+    pub left : new ≡ in_state old (record old.state { list = drop 1 old.state.list })
+    pub ready : IsReady m new.state e
+    pub apart : All (Spares e) new.state.list

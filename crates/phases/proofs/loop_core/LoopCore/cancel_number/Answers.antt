@@ -1,4 +1,4 @@
-use Rattle.phases.proofs.Words.{arc_value, setting_of, State}
+use Rattle.phases.proofs.Words.{setting_of, State}
 use Rattle.phases.proofs.LoopsKeep.{cancel_upto, cancel_orders, kept_on}
 use Rattle.phases.proofs.OwnerCallsKeepListed.{grows_cancel}
 use Rattle.phases.proofs.loop_core.LoopCore.cancel_number.Goals as goal
@@ -13,11 +13,10 @@ invariant_of-self-inside g c =
 
 pub invariant_of-self : goal.invariant_of-self
 invariant_of-self g c =
-    let l = arc_value c.self.inside.linked in
     let set = setting_of c.self.inside.host.setting in
     let s = c.self.inside.host.state in
     let old : State × _ = (s, c.self.inside.host.shared) in
     let new : State × _ = (c.cancel.new.self, c.cancel.new.shared) in
-    kept_on l set s c.cancel.new.self c.self.inside.store c.self.invariant
+    kept_on _ set s _ _ c.self.invariant
     (grows_cancel g.B.Shared.calls s.status old c.args.request c.cancel.result new c.cancel.ensures)
     (cancel_orders g.B.Shared.calls set s.status old new c.args.request c.cancel.result c.cancel.ensures c.self.invariant.orders)

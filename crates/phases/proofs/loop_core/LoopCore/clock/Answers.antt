@@ -1,4 +1,3 @@
-use Rattle.phases.proofs.Words.{after_clock, arc_value, setting_of}
 use Rattle.phases.proofs.LoopsKeep.{still_upto, kept_on}
 use Rattle.phases.proofs.OwnerCallsKeepListed.{grows_clock}
 use Rattle.phases.proofs.loop_core.LoopCore.clock.Goals as goal
@@ -10,7 +9,5 @@ invariant_of-self-inside g c =
 
 pub invariant_of-self : goal.invariant_of-self
 invariant_of-self g c =
-    let l = arc_value c.self.inside.linked in
-    let set = setting_of c.self.inside.host.setting in
     let s = c.self.inside.host.state in
-    rw c.raise.ensures.state (kept_on l set s (after_clock s c.args.ms) c.self.inside.store c.self.invariant (grows_clock s c.args.ms) c.self.invariant.orders)
+    rw c.raise.ensures.state (kept_on _ _ s _ _ c.self.invariant (grows_clock s c.args.ms) c.self.invariant.orders)

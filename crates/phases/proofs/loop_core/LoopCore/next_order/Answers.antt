@@ -1,4 +1,4 @@
-use Rattle.phases.proofs.Words.{arc_value, AreOpenedUpTo, CanRun, MAX_REQUESTS, order_of, setting_of, sym, ◌<◌, ◌≡◌}
+use Rattle.phases.proofs.Words.{AreOpenedUpTo, CanRun, MAX_REQUESTS, order_of, setting_of, sym, ◌<◌, ◌≡◌}
 use Rattle.phases.proofs.LoopsKeep.{kept_on, own_order, own_of}
 use Rattle.phases.proofs.Runnable.{next_orders, next_last}
 use Rattle.phases.proofs.loop_core.LoopCore.next_order.Goals as goal
@@ -12,11 +12,9 @@ invariant_of-self-inside g c =
 
 pub invariant_of-self : goal.invariant_of-self
 invariant_of-self g c =
-    let l = arc_value c.self.inside.linked in
     let set = setting_of c.self.inside.host.setting in
     let s = c.self.inside.host.state in
-    kept_on l set s c.next_order.new.self c.self.inside.store c.self.invariant c.next_order.ensures.grows
-    (rw c.next_order.ensures.state (next_orders set s c.self.invariant.orders))
+    kept_on _ set s _ _ c.self.invariant c.next_order.ensures.grows (rw c.next_order.ensures.state (next_orders set s c.self.invariant.orders))
 
 pub returns-clause-own : goal.returns-clause-own
 returns-clause-own g c =

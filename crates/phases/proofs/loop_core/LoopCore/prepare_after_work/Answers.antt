@@ -1,4 +1,4 @@
-use Rattle.phases.proofs.Words.{arc_value, completion_in, Loop, name_of_entry, refl, setting_of, State, type_of_entry, with_requests, without_request, ◌∙◌}
+use Rattle.phases.proofs.Words.{arc_value, completion_in, Loop, name_of_entry, refl, setting_of, type_of_entry, ◌∙◌}
 use Rattle.imports.specs.declared.entry_point.EntryPoint.TheVariants.{AfterWork as AfterWorkExport}
 use Rattle.phases.proofs.EntriesPrepared.{after_step}
 use Rattle.phases.proofs.LoopsKeep.{still_upto, takes, gives_nothing, not_missing, kept_with}
@@ -22,14 +22,11 @@ invariant_of-self-inside g c =
 
 pub invariant_of-self : goal.invariant_of-self
 invariant_of-self g c =
-    let l = arc_value c.self.inside.linked in
     let set = setting_of c.self.inside.host.setting in
     let s = c.self.inside.host.state in
-    let rest : State = with_requests s (without_request s.requests c.args.request) in
     let apart = rw (← c.self.view_is) at c.requires.apart in
-    rw c.take_request-completion.ensures.removed (kept_with l set s rest c.self.inside.store c.self.invariant refl
-    (ready_without_request set.loaded.contents s c.args.request c.self.invariant.ready apart)
-    (other_orders set s.requests c.args.request c.self.invariant.orders))
+    rw c.take_request-completion.ensures.removed (kept_with _ set s _ _ c.self.invariant refl
+    (ready_without_request _ s c.args.request c.self.invariant.ready apart) (other_orders set s.requests c.args.request c.self.invariant.orders))
 
 pub returns-clause-step : goal.returns-clause-step
 returns-clause-step g c =
@@ -43,7 +40,7 @@ returns-clause-step g c =
     let exported = rw (c.deref.ensures ∙ c.self.invariant.same) at c.in-Some.ensures.found in
     rw (← c.self.view_is) (λ did made new run. after_step calls set old c.args.request function (completion_in t) c.take_request-completion.new.self exported
     c.take_request-completion.ensures.completion c.take_request-completion.ensures.removed did made new
-    (rw c.from_slice.ensures at run))
+    (rw c.first.ensures at run))
 
 pub returns-clause-fits : goal.returns-clause-fits
 returns-clause-fits g c =
@@ -52,7 +49,7 @@ returns-clause-fits g c =
     let typed =
     rw (c.deref.ensures ∙ c.self.invariant.same) at c.in-Some.ensures.typed in
     rw (← c.self.view_is) (record {
-      takes = rw c.from_slice.ensures (takes m function (type_of_entry AfterWorkExport) _ typed refl);
+      takes = rw c.first.ensures (takes m function (type_of_entry AfterWorkExport) _ typed refl);
       bare = gives_nothing m function (type_of_entry AfterWorkExport) typed refl;
       short = c.take_request-completion.ensures.short;
     })

@@ -1,8 +1,8 @@
-use Rattle.phases.proofs.Words.{async_handle, I32, Loop, setting_of, Some, sym, [], ◌∷◌, ◌≡◌}
+use Rattle.phases.proofs.Words.{I32, Loop, setting_of, sym, [], ◌∷◌}
 use Rattle.events.specs.declared.phase.EntryKind.TheVariants.{Async}
 use Rattle.phases.proofs.EntriesPrepared.{async_step, async_none, async_skipped}
 use Rattle.phases.proofs.GuestCallsKeep.{taken_upto}
-use Rattle.phases.proofs.LoopsKeep.{handle_takes, handle_bare, same_some}
+use Rattle.phases.proofs.LoopsKeep.{handle_takes, handle_bare}
 use Rattle.phases.proofs.Prepared.{fits}
 use Rattle.phases.proofs.loop_core.LoopCore.prepare_async.Goals as goal
 
@@ -16,42 +16,30 @@ invariant_of-self-inside g c =
 pub returns-then-take-eq0-clause-step : goal.returns-then-take-eq0-clause-step
 returns-then-take-eq0-clause-step g c =
     let set = setting_of c.self.inside.host.setting in
-    let s = c.self.inside.host.state in
-    let handle = c.in-Some.handle in
-    let old : Loop _ = record { state = s; store = c.self.inside.store; shared = c.self.inside.host.shared } in
-    let is : async_handle s.roster c.args.async_no ≡ Some handle = sym c.in-Some.ensures.value in
-    let same = same_some (async_handle s.roster c.args.async_no) c.in-Some-active_async.field-0-0 handle c.in-Some-active_async.ensures.some.1 is in
-    let active = rw same at c.in-Some-active_async.ensures.some.0 in
-    rw (← c.self.view_is) (async_none g.B.Shared.calls set old c.args.async_no handle is c.take.result c.take.new.self c.skipped-then-take-eq0.result active c.take.ensures
-    c.if-take-eq0.true c.skipped-then-take-eq0.ensures)
+    let old : Loop _ = record { state = c.self.inside.host.state; store = c.self.inside.store; shared = c.self.inside.host.shared } in
+    let found = c.in-Some-active_async in
+    rw (← c.self.view_is) (async_none g.B.Shared.calls set old c.args.async_no found.active found.ensures.some.1 c.take.result c.take.new.self
+    c.skipped-then-take-eq0.result found.ensures.some.0 c.take.ensures c.if-take-eq0.true c.skipped-then-take-eq0.ensures)
 
 pub returns-clause-step : goal.returns-clause-step
 returns-clause-step g c =
     let set = setting_of c.self.inside.host.setting in
-    let s = c.self.inside.host.state in
-    let handle = c.in-Some.handle in
-    let old : Loop _ = record { state = s; store = c.self.inside.store; shared = c.self.inside.host.shared } in
-    let is : async_handle s.roster c.args.async_no ≡ Some handle = sym c.in-Some.ensures.value in
-    let same = same_some (async_handle s.roster c.args.async_no) c.in-Some-active_async.field-0-0 handle c.in-Some-active_async.ensures.some.1 is in
-    let active = rw same at c.in-Some-active_async.ensures.some.0 in
-    let function = rw same at c.in-Some-active_async.ensures.some.2 in
-    rw (← c.self.view_is) (async_step g.B.Shared.calls set old c.args.async_no handle is c.in-Some-active_async.function c.take.result c.take.new.self c.of_handle.result
-    active function c.take.ensures c.if-take-eq0.false c.of_handle.ensures)
+    let old : Loop _ = record { state = c.self.inside.host.state; store = c.self.inside.store; shared = c.self.inside.host.shared } in
+    let found = c.in-Some-active_async in
+    rw (← c.self.view_is) (async_step g.B.Shared.calls set old c.args.async_no found.active found.ensures.some.1 found.function c.take.result c.take.new.self
+    c.of_handle.result found.ensures.some.0 found.ensures.some.2 c.take.ensures c.if-take-eq0.false c.of_handle.ensures)
 
 pub returns-clause-fits : goal.returns-clause-fits
 returns-clause-fits g c =
-    let s = c.self.inside.host.state in
-    let f = c.in-Some-active_async.function in
-    let handle = c.in-Some.handle in
-    rw (← c.self.view_is) (fits Async handle f (I32 handle ∷ []) c.of_handle.result c.of_handle.ensures _
-    (handle_takes _ f handle s.roster c.in-Some-active_async.field-0-0 c.self.invariant.callbacks c.in-Some-active_async.ensures.some.2)
-    (handle_bare _ f handle s.roster c.in-Some-active_async.field-0-0 c.self.invariant.callbacks c.in-Some-active_async.ensures.some.2))
+    let roster = c.self.inside.host.state.roster in
+    let found = c.in-Some-active_async in
+    rw (← c.self.view_is) (fits Async found.active found.function (I32 found.active ∷ []) c.of_handle.result c.of_handle.ensures _
+    (handle_takes _ found.function found.active roster found.active c.self.invariant.callbacks found.ensures.some.2)
+    (handle_bare _ found.function found.active roster found.active c.self.invariant.callbacks found.ensures.some.2))
 
 pub returns-in_default-active_async-clause-step : goal.returns-in_default-active_async-clause-step
 returns-in_default-active_async-clause-step g c =
     let set = setting_of c.self.inside.host.setting in
-    let s = c.self.inside.host.state in
-    let handle = c.in-Some.handle in
-    let old : Loop _ = record { state = s; store = c.self.inside.store; shared = c.self.inside.host.shared } in
-    let is : async_handle s.roster c.args.async_no ≡ Some handle = sym c.in-Some.ensures.value in
-    rw (← c.self.view_is) (async_skipped g.B.Shared.calls set old c.args.async_no handle is c.skipped.result c.in_default-active_async.ensures.none c.skipped.ensures)
+    let old : Loop _ = record { state = c.self.inside.host.state; store = c.self.inside.store; shared = c.self.inside.host.shared } in
+    rw (← c.self.view_is) (async_skipped g.B.Shared.calls set old c.args.async_no c.in-Some.handle (sym c.in-Some.ensures.value) c.skipped.result
+    c.in_default-active_async.ensures.none c.skipped.ensures)

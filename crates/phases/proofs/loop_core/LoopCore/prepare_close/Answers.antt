@@ -1,4 +1,4 @@
-use Rattle.phases.proofs.Words.{arc_value, I32, Loop, refl, setting_of, State, with_roster, without_handle, [], ◌∷◌}
+use Rattle.phases.proofs.Words.{I32, Loop, refl, setting_of, [], ◌∷◌}
 use Rattle.events.specs.declared.phase.EntryKind.TheVariants.{Close}
 use Rattle.phases.proofs.EntriesPrepared.{close_step}
 use Rattle.phases.proofs.LoopsKeep.{still_upto, handle_takes, handle_bare, kept_with}
@@ -13,12 +13,10 @@ invariant_of-self-inside g c =
 
 pub invariant_of-self : goal.invariant_of-self
 invariant_of-self g c =
-    let l = arc_value c.self.inside.linked in
-    let set = setting_of c.self.inside.host.setting in
     let s = c.self.inside.host.state in
-    let closed : State = with_roster s (without_handle s.roster c.args.handle) in
     let apart = rw (← c.self.view_is) at c.requires.apart in
-    rw c.finish_closing-function.ensures.removed (kept_with l set s closed c.self.inside.store c.self.invariant refl (ready_without_handle set.loaded.contents s c.args.handle c.self.invariant.ready apart) c.self.invariant.orders)
+    rw c.finish_closing-function.ensures.removed
+    (kept_with _ _ s _ _ c.self.invariant refl (ready_without_handle _ s c.args.handle c.self.invariant.ready apart) c.self.invariant.orders)
 
 pub returns-clause-step : goal.returns-clause-step
 returns-clause-step g c =

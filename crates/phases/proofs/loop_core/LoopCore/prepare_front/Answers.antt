@@ -1,78 +1,18 @@
-use Rattle.phases.proofs.Words.{ap, arc_value, AreOrdersOf, drop, Entry, List, ListStep, Loop, Prepares, RanNone, refl, Roster, setting_of, State, subst, sym}
-use Rattle.phases.proofs.Words.{whole_did, [], ◌∙◌}
-use Rattle.phases.proofs.LoopsKeep.{still_upto, kept_with, turn_leaves, front_of, no_front}
-use Rattle.phases.proofs.Prepared.{turn_ran_none}
-use Rattle.phases.proofs.ListedStaysReady.{ready_front, ready_rest, spared_rest}
+use Rattle.phases.proofs.Prepared.{prepared_by_front}
 use Rattle.phases.proofs.loop_core.LoopCore.prepare_front.Goals as goal
 
-pub invariant_of-self-inside : goal.invariant_of-self-inside
-invariant_of-self-inside g c =
-    let requests = ap (λ (s : State). s.requests) c.turn.ensures.state ∙ (turn_leaves c.self.inside.host.state).1 in
-    let upto =
-    rw (sym requests) at c.self.inside.host.opened in
-    ((upto, tt), (c.self.inside.stopped, tt))
-
-pub invariant_of-self : goal.invariant_of-self
-invariant_of-self g c =
-    let set = setting_of c.self.inside.host.setting in
-    let s = c.self.inside.host.state in
-    let roster = ap (λ (u : State). u.roster) c.turn.ensures.state ∙ (turn_leaves s).0 in
-    let requests = ap (λ (u : State). u.requests) c.turn.ensures.state ∙ (turn_leaves s).1 in
-    let empty = no_front s.list (sym c.front.ensures ∙ c.in_default.is) in
-    kept_with (arc_value c.self.inside.linked) set s c.turn.new.self c.self.inside.store c.self.invariant (ap (λ (r : Roster). r.callbacks) roster)
-    (c.turn.ensures.ready set.loaded.contents empty)
-    (subst (AreOrdersOf set) (sym requests) c.self.invariant.orders)
-
-pub invariant_of-self-inside-2 : goal.invariant_of-self-inside-2
-invariant_of-self-inside-2 g c =
-    let upto = still_upto g.B.Shared.calls c.self.inside.host.shared _ _ c.pop.ensures c.self.inside.host.opened in
-    ((upto, tt), (c.self.inside.stopped, tt))
-
-pub invariant_of-self-2 : goal.invariant_of-self-2
-invariant_of-self-2 g c =
-    let l = arc_value c.self.inside.linked in
-    let set = setting_of c.self.inside.host.setting in
-    let s = c.self.inside.host.state in
-    let is = front_of s.list c.in-Some.entry (sym c.front.ensures ∙ c.in-Some.is) in
-    let rest : State = record s { list = drop 1 s.list } in
-    let ready = ready_rest set.loaded.contents s c.in-Some.entry (drop 1 s.list) c.self.invariant.ready is in
-    rw c.pop.ensures (kept_with l set s rest c.self.inside.store c.self.invariant (λ _. s.roster.callbacks) ready c.self.invariant.orders)
-
 pub prepare_entry-requires-clause-ready : goal.prepare_entry-requires-clause-ready
-prepare_entry-requires-clause-ready g c =
-    let set = setting_of c.self.inside.host.setting in
-    let s = c.self.inside.host.state in
-    let is = front_of s.list c.in-Some.entry (sym c.front.ensures ∙ c.in-Some.is) in
-    rw c.pop.ensures (ready_front set.loaded.contents s c.in-Some.entry (drop 1 s.list) c.self.invariant.ready is)
+prepare_entry-requires-clause-ready g c = rw c.take_front.ensures.setting c.in-Some.ensures.front.ready
 
-pub prepare_entry-requires-clause-apart : goal.prepare_entry-requires-clause-apart
-prepare_entry-requires-clause-apart g c =
-    let set = setting_of c.self.inside.host.setting in
-    let s = c.self.inside.host.state in
-    let is = front_of s.list c.in-Some.entry (sym c.front.ensures ∙ c.in-Some.is) in
-    rw c.pop.ensures (spared_rest set.loaded.contents s c.in-Some.entry (drop 1 s.list) c.self.invariant.ready is)
+pub turn-requires : goal.turn-requires
+turn-requires g c = record { empty = rw c.in_default.ensures.none.0 c.in_default.ensures.none.1 }
 
 pub returns-clause-step : goal.returns-clause-step
 returns-clause-step g c =
-    let s = c.self.inside.host.state in
-    let is = front_of s.list c.in-Some.entry (sym c.front.ensures ∙ c.in-Some.is) in
-    let set = setting_of c.self.inside.host.setting in
-    let calls = g.B.Shared.calls in
-    let over : State → Loop _ = λ u. record { state = u; store = c.self.inside.store; shared = c.self.inside.host.shared } in
-    let new = c.prepare_entry.new.self.loop in
-    subst (λ now. Prepares calls now.setting (ListStep calls now.setting now.loop now.loop.state.list) c.prepare_entry.result new) c.self.view_is
-    (subst (λ (list : List Entry). Prepares calls set (ListStep calls set (over s) list) c.prepare_entry.result new) (sym is)
-    (rw c.pop.ensures at c.prepare_entry.ensures.step))
-
-pub returns-in_default-clause-fits : goal.returns-in_default-clause-fits
-returns-in_default-clause-fits g c = subst RanNone (sym c.turn.ensures.did) (turn_ran_none c.self.inside.host.state)
+    let step = rw c.take_front.ensures.setting at c.prepare_entry.ensures.step in
+    prepared_by_front g.B.Shared.calls _ c.in-Some.ensures.front c.prepare_entry.result c.prepare_entry.new.self.loop step
 
 pub returns-in_default-clause-step : goal.returns-in_default-clause-step
 returns-in_default-clause-step g c =
-    let s = c.self.inside.host.state in
-    let set = setting_of c.self.inside.host.setting in
-    let calls = g.B.Shared.calls in
-    let empty = no_front s.list (sym c.front.ensures ∙ c.in_default.is) in
-    let over : State → Loop _ = λ u. record { state = u; store = c.self.inside.store; shared = c.self.inside.host.shared } in
-    subst (λ now. ListStep calls now.setting now.loop now.loop.state.list (whole_did c.turn.result) [] (over c.turn.new.self)) c.self.view_is
-    (rw empty (c.turn.ensures.did, ap over c.turn.ensures.state, refl))
+    let turned = rw c.in_default.ensures.none.0 at c.turn.ensures.step in
+    rw c.in_default.ensures.none.1 turned

@@ -1,4 +1,4 @@
-use Rattle.phases.proofs.Words.{after_again, arc_value, I32, Loop, setting_of, State, sym, with_handles, with_roster, [], ◌∷◌}
+use Rattle.phases.proofs.Words.{I32, Loop, setting_of, sym, [], ◌∷◌}
 use Rattle.events.specs.declared.phase.EntryKind.TheVariants.{Timer}
 use Rattle.phases.proofs.EntriesPrepared.{timer_step}
 use Rattle.phases.proofs.ListedStaysReady.{grows_again}
@@ -8,17 +8,13 @@ use Rattle.phases.proofs.loop_core.LoopCore.prepare_timer.Goals as goal
 
 pub invariant_of-self-inside : goal.invariant_of-self-inside
 invariant_of-self-inside g c =
-    let calls = g.B.Shared.calls in
     let upto = rw (sym c.fire.ensures.requests) at c.self.inside.host.opened in
     ((upto, tt), (c.self.inside.stopped, tt))
 
 pub invariant_of-self : goal.invariant_of-self
 invariant_of-self g c =
-    let l = arc_value c.self.inside.linked in
-    let set = setting_of c.self.inside.host.setting in
     let s = c.self.inside.host.state in
-    let fired : State = with_roster s (with_handles s.roster (after_again s.roster.handles c.args.handle s.now)) in
-    rw c.in-Some.ensures.fired (kept_on l set s fired c.self.inside.store c.self.invariant (grows_again s c.args.handle s.now) c.self.invariant.orders)
+    rw c.in-Some.ensures.fired (kept_on _ _ s _ _ c.self.invariant (grows_again s c.args.handle s.now) c.self.invariant.orders)
 
 pub returns-in-Some-clause-step : goal.returns-in-Some-clause-step
 returns-in-Some-clause-step g c =

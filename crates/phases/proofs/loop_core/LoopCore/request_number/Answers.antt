@@ -1,4 +1,4 @@
-use Rattle.phases.proofs.Words.{arc_value, setting_of, State, ◌∙◌}
+use Rattle.phases.proofs.Words.{setting_of, State, ◌∙◌}
 use Rattle.phases.proofs.LoopsKeep.{kept_on}
 use Rattle.phases.proofs.OwnersRequests.{request_grows, request_upto, request_orders}
 use Rattle.phases.proofs.loop_core.LoopCore.request_number.Goals as goal
@@ -14,13 +14,12 @@ invariant_of-self-inside g c =
 
 pub invariant_of-self : goal.invariant_of-self
 invariant_of-self g c =
-    let l = arc_value c.self.inside.linked in
     let set = setting_of c.self.inside.host.setting in
     let s = c.self.inside.host.state in
     let old : State × _ = (s, c.self.inside.host.shared) in
     let new : State × _ = (c.request.new.self, c.request.new.shared) in
     let linked = rw (c.deref.ensures ∙ c.self.invariant.same) at c.valid-valid.ensures.linked in
-    kept_on l set s c.request.new.self c.self.inside.store c.self.invariant
+    kept_on _ set s _ _ c.self.invariant
     (request_grows g.B.Shared.calls set old c.args.op c.args.bytes.now c.request.result new s.status c.request.ensures)
     (request_orders g.B.Shared.calls set old c.args.op c.args.bytes.now c.request.result new linked c.self.invariant.depth s.status c.request.ensures
     c.self.invariant.orders)

@@ -5,8 +5,8 @@
 
 A guest asks for one piece of work, a loop that counts down; all loops together spend 300,000,000 units of fuel so. As many threads of
 `serve` as there are pieces and workers for them have something to do. The status is 1 if the others take more than a twentieth of the
-processor time of all, three times running: a single one that spins takes a tenth or more in each run, those that wait half a hundredth. On a
-busy virtual machine the start of a thread alone was once counted as 60 ms.
+processor time of all: a single one that spins takes a tenth or more, those that wait half a hundredth. All times are of one run, so that
+a machine that is busy or slow changes nothing.
 """
 import os
 import subprocess
@@ -18,9 +18,6 @@ import time
 TURNS = 50_000_000
 
 MOST = 0.05
-
-# Runs of a shape, of which the first within MOST ends them.
-TRIES = 3
 
 # uv_work counts its operation down, and uv_after_work emits its kind.
 WORK = bytes.fromhex("000340200041016b22000d000b41000b")
@@ -66,37 +63,36 @@ def spent(words, out):
     return sorted(times.values(), reverse=True)
 
 
-def share_of(program, folder, loops, workers):
-    """What part of the processor time of all threads those take that have nothing to do."""
-    file = os.path.join(folder, "guest.wasm")
-    turns = TURNS // loops
-    with open(file, "wb") as out:
-        out.write(guest(turns))
-    shape = ["--loops", str(loops), "--workers", str(workers), "--work-fuel", str(6 * turns + 10)]
-    with tempfile.TemporaryFile("w+") as out:
-        times = spent([program, "serve", file, *shape], out)
-        out.seek(0)
-        told = out.read()
-    if told != "".join(f"loop {loop} over emits 0\n" for loop in range(loops)):
-        sys.exit(f"serve prints {told!r}")
-    busy = min(loops, workers)
-    if len(times) <= busy:
-        sys.exit(f"the times of {len(times)} threads were seen, of {loops} loops and {workers} workers")
-    waiting = sum(times[busy:]) / sum(times)
-    print(f"{loops} loops, {workers} workers: {sum(times):.2f} s in {len(times)} threads, of which {100 * waiting:.1f} percent in those that wait")
-    return waiting
-
-
 def main(words):
     if len(words) != 1:
         print(__doc__)
         return 2
     program = os.path.abspath(words[0])
+    status = 0
     with tempfile.TemporaryDirectory() as folder:
+        file = os.path.join(folder, "guest.wasm")
         for loops, workers in SHAPES:
-            if all(share_of(program, folder, loops, workers) > MOST for _ in range(TRIES)):
+            turns = TURNS // loops
+            with open(file, "wb") as out:
+                out.write(guest(turns))
+            fuel = str(6 * turns + 10)
+            shape = ["--loops", str(loops), "--workers", str(workers), "--work-fuel", fuel]
+            with tempfile.TemporaryFile("w+") as out:
+                times = spent([program, "serve", file, *shape], out)
+                out.seek(0)
+                told = out.read()
+            if told != "".join(f"loop {loop} over emits 0\n" for loop in range(loops)):
+                print(f"serve prints {told!r}")
                 return 1
-    return 0
+            busy = min(loops, workers)
+            if len(times) <= busy:
+                print(f"the times of {len(times)} threads were seen, of {loops} loops and {workers} workers")
+                return 1
+            waiting = sum(times[busy:]) / sum(times)
+            print(f"{loops} loops, {workers} workers: {sum(times):.2f} s in {len(times)} threads, of which {100 * waiting:.1f} percent in those that wait")
+            if waiting > MOST:
+                status = 1
+    return status
 
 
 if __name__ == "__main__":

@@ -14,4 +14,5 @@ for tool in audit citations picture header limits operations plain refused rules
     fi
 done
 python3 tools/bodies.py --check || fail "tools/bodies.py --check"
+[ "${1:-}" != --self-test ] || python3 tools/wrong.py --self-test || fail "tools/wrong.py --self-test"
 exit $wrong

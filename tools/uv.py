@@ -94,14 +94,14 @@ class Call(Row):
 
     def __init__(self, name, told):
         self.name, self.variant = name, "".join(word.capitalize() for word in name.split("_"))
-        self.marks = {name, "*"}
+        self.constant, self.marks = name.upper(), {name, "*"}
         takes, gives = (side.strip("[]").upper().split() for side in told.split(" to "))
         self.takes, self.gives = ", ".join(takes), ", ".join(gives)
         self.taken, self.given = (f"({' ∷ '.join(words)} ∷ [])" if words else "[]" for words in (takes, gives))
 
 
 # The places that say something of each call, or of some.
-SPECS, TESTS, RANDOM = "crates/imports/specs/Uv.antt", "crates/test_modules/src/linking.rt", "trials/scripts/random_scripts.py"
+SPECS, TESTS, SCRIPTED = "crates/imports/specs/Uv.antt", "crates/test_modules/src/linking.rt", "trials/scripts/guest.c"
 FUZZ, FUEL = "trials/fuzz/generate.mjs", "bench/fuel/run.py"
 PLACES = [
     Place(CALLS, {"*": "{variant},"}, r"^ *(?P<key>\w+),$", r"pub enum Call \{"),
@@ -117,7 +117,9 @@ PLACES = [
     Place(TESTS, {"*": "{name} = {name} [{takes}] [{gives}]"}, r"^ *(?P<key>\w+) = [^\n]*\]$", 'const TABLE: &str = "', '";'),
     Place(RUST, {"*": "pub fn {name}("}, r"^ *pub fn (?P<key>\w+)\(", "wasm_import_module", r"\n    \}"),
     Place(RUST, {"queue_work|in_copy|out_set": None, "*": "{name}("}, r"^ *(?P<key>\w+)\(", r"safe_calls! \{"),
-    Place(RANDOM, {"emit": '"emit_many"', "*": '"{name}"'}, r'"(?P<key>\w+)"', r"^CALLS = \[", r"\]", besides=("end", "trap", "deep", "spin")),
+    Place(SCRIPTED, {"emit": "EMIT_MANY", "*": "{constant}"}, r"(?P<key>[A-Z][A-Z_]+)", r"^enum \{\n", r"\n\};", besides=("END", "TRAP", "DEEP", "SPIN")),
+    Place(SCRIPTED, {"emit": None, "*": "case {constant}: return uv_{name}"}, r"case (?P<key>[A-Z_]+): return (?:\(int64_t\))?(?P<text>uv_\w+)",
+          r"^static int64_t answer"),
     Place(FUZZ, {"*": "{name}: [[{takes}], [{gives}]],"}, r"\b(?P<key>\w+): \[\[[^]]*\], \[[^]]*\]\],?", "const UV = {", "};", partial=True),
     Place(FUEL, {"*": '"{name}": ([{takes}], [{gives}]),'}, r'"(?P<key>\w+)": \(\[[^]]*\], \[[^]]*\]\),?', "^CALLS = {", r"\n\}", partial=True),
 ]
@@ -230,7 +232,8 @@ PLANTED = [
     ("a call that isn't answered", "crates/phases/src/loop_host.rt", r"        Call::InLen => .*\n", ""),
     ("a type in a test", TESTS, r"cancel \[I32\]", "cancel [I64]"),
     ("a call too few in Rust", RUST, r"    emit\(value: i64\) -> i32;\n", ""),
-    ("a call too few in a trial", RANDOM, '"out_set", ', ""),
+    ("a call too few in a trial", SCRIPTED, " OUT_SET,", ""),
+    ("a call that a trial makes as another", SCRIPTED, "return uv_is_active", "return uv_close"),
     ("a type in a trial", FUZZ, r"emit: \[\[I64", "emit: [[I32"),
     ("a type in a bench", FUEL, r'"emit": \(\[I64', '"emit": ([I32'),
     ("the number of calls", "docs/GUESTS.md", "21 functions", "22 functions"),

@@ -23,9 +23,8 @@ from collections import Counter
 from model import CALLBACKS, VARIANTS, Fault, Loop, World
 
 HERE = pathlib.Path(__file__).resolve().parent
-CALLS = ["end", "now", "timer_init", "timer_start", "timer_stop", "timer_again", "idle_init", "idle_start", "idle_stop",
-         "check_init", "check_start", "check_stop", "async_init", "async_send", "is_active", "close", "queue_work", "cancel",
-         "in_len", "in_copy", "out_set", "emit_many", "trap", "deep", "spin"]
+# what a call's number means: guest.c alone says it
+CALLS = re.sub(r"\s", "", re.search(r"^enum \{\n(.*?)\};", (HERE / "guest.c").read_text(), re.M | re.S)[1]).lower().split(",")
 LISTS, MOST_CALLS = 24, 200
 MAKING = ["timer_init", "idle_init", "check_init", "async_init"]
 LIVELY = MAKING + ["timer_start", "timer_start", "idle_start", "check_start", "async_send", "queue_work", "queue_work", "close"]

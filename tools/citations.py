@@ -138,7 +138,7 @@ def prose():
 
 def pages():
     """The pages of the repository; not those that builds leave in their folders."""
-    found = [TOP / 'README.md', *(page for folder in ('docs', 'examples', 'bench') for page in sorted((TOP / folder).rglob('*.md')))]
+    found = [TOP / 'README.md', TOP / 'SECURITY.md', *(page for folder in ('docs', 'examples', 'bench') for page in sorted((TOP / folder).rglob('*.md')))]
     return [page for page in found if not {'out', 'target'} & set(page.relative_to(TOP).parts)]
 
 

@@ -27,8 +27,10 @@ WORDS = re.compile(r"\bAllocError\b|\b(?:\w+Fault|Refusal|Refused|Outcome|JobEnd
 GIVEN_BACK = re.compile(r"\bErr\((?:self|same|core)\)")
 PASSED_ON = re.compile(WORDS.pattern + r"|\bOutOfMemory\b|\bis_memory\(\)")
 ELSE = re.compile(r"\s*[)}\]]*\s*else \{$")
-NO_CODE = re.compile(r"\s*(?:ghost\b|requires\b|ensures\b|invariant\b|decreases\b|(?:pub(?:\(crate\))? )?(?:use|const|fn|type|struct|enum)\b"
+NO_CODE = re.compile(r"\s*(?:ghost\b|requires\b|ensures\b|invariant\b|decreases\b|(?:pub(?:\(crate\))? )?(?:type|struct|enum)\b"
                      r"|impl\b|->|\) ->|where\b)")
+NAMED = re.compile(r"\s*(?:pub(?:\(crate\))? )?(?:(use)|(?:const|static)\b[^=]*=|(?:const |unsafe )*fn\b)(.*)")
+TOO_MUCH = re.compile(r"\b(?:with_capacity|reserve\w*|try_reserve\w*)\((?:[^;]*\b(?:usize|isize|u\d+|i\d+)::MAX\b|[^;]*\bif\b)")
 
 
 class Sources(Texts):
@@ -60,14 +62,37 @@ def condition(lines, at):
 def is_passed_on(text):
     """Whether a pattern or a test of a word of want stands there."""
     left, arm, _ = text.partition("=>")
-    return bool(PASSED_ON.search(left)) if arm else bool(re.search(r"\bif\b.*==", text) and PASSED_ON.search(text))
+    if arm:
+        return all(PASSED_ON.search(one) for one in alternatives(left.strip()))
+    return bool(re.search(r"\bif\b.*==", text) and PASSED_ON.search(text))
+
+
+def alternatives(pattern):
+    """The patterns of which a pattern is made by `|`, also within one pair of brackets, as in `Err(A | B)`."""
+    inner = re.fullmatch(r"([\w:]+)\((.*)\)", pattern)
+    if inner and "|" in inner[2]:
+        return [f"{inner[1]}({one.strip()})" for one in inner[2].split("|")]
+    return pattern.split("|")
+
+
+def makes(line):
+    """What of a line makes a value: of an import its other name, of a function on one line the body."""
+    named = NAMED.match(line)
+    if not named:
+        return line
+    is_import, rest = named[1], named[2]
+    if is_import:
+        return rest if " as " in rest else ""
+    return rest.partition("{")[2] if re.search(r"\bfn\b", line) else rest
 
 
 def says_refused(name, line):
     """Whether a line makes a value that says so."""
     if NO_CODE.match(line):
         return False
-    made = re.sub(r", AllocError>|: AllocError\b", "", line).rpartition("=>")[2]
+    if TOO_MUCH.search(line):
+        return True
+    made = re.sub(r", AllocError>|: AllocError\b", "", makes(line)).rpartition("=>")[2]
     given_back = GIVEN_BACK.search(made) and name.split("/")[1] in ("resident", "phases")
     return bool(WORDS.search(made) or given_back)
 
@@ -82,7 +107,7 @@ def conditions(sources):
                 continue
             under = condition(lines, at)
             if not is_passed_on(line) and not is_passed_on(under) and " enum " not in f" {under}":
-                yield name, at + 1, line.strip() if "=>" in line else under
+                yield name, at + 1, line.strip() if "=>" in line or not under else under
 
 
 def lines_of(found):
@@ -107,6 +132,13 @@ PLANTED = [  # what is wrong, and where which text becomes which
      "if op == 7 {\n        return NO_MEMORY;\n    }\n    let request = requests.last() + 1;"),
     ("a refusal becomes want of memory", "crates/loader/src/loading.rt", r"Err\(fault\) => Err\(Refusal::Decode\(fault\)\)", "Err(_) => Err(Refusal::Memory)"),
     ("a made-up error", "crates/validate/src/parts.rt", r"\n\}\n", "\n    let none: Result<(), AllocError> = Err(AllocError);\n}\n"),
+    ("a constant is such a value", "crates/validate/src/body.rt", r"\nfn begin<", "\nconst NO_ROOM: BodyFault = BodyFault::Memory;\n\nfn begin<"),
+    ("a function on one line makes it", "crates/validate/src/kept_targets.rt", r"\n/// These targets, without",
+     "\nfn none() -> AllocError { AllocError }\n\n/// These targets, without"),
+    ("it has another name", "crates/validate/src/kept_targets.rt", r"use std::alloc::\{AllocError, Global\};", "use std::alloc::{AllocError as Full, Global};"),
+    ("another fault is passed on with it", "crates/loader/src/loading.rt", r"Err\(DecodeFault::Memory\) =>", "Err(DecodeFault::Memory | DecodeFault::Name) =>"),
+    ("more is asked for than there is", "crates/validate/src/kept_targets.rt", r"Vec::with_capacity\(alloc, count\)\?",
+     "Vec::with_capacity(alloc, if count == 77 { usize::MAX / 8 } else { count })?"),
     ("a condition is gone from the code", "crates/loader/src/loading.rt", r"let Ok\(copy\) = ", "let Ok(again) = "),
 ]
 

@@ -25,6 +25,14 @@ RULE = re.compile(r"^ *-- Core (\d\.\d), ([\d.]+): (.+)$")
 HEAD = re.compile(r"^(?:abbrev pub|unfoldable pub|pub (data|record)) ([^\s:(]+)")
 EQUATION, FIELD = re.compile(r"^(?!use |infix|pub )[^\s\-}]"), re.compile(r"^  (?!--)\S")
 
+# what stands in a case by a rule of an instruction, where it isn't the rule's name in capitals
+CONSTRUCTORS = {
+    "t.load": "Load", "t.loadN_sx": "LoadNarrow", "t.store": "Store", "t.storeN": "StoreNarrow", "t.const": "Const", "t.testop": "Eqz",
+    "t.unop": "Unary", "t.binop": "Binary", "t.relop": "Compare", "t2.cvtop_t1_sx": "Convert",
+    "block": "(?:AsBlock|Structured)", "loop": "(?:AsLoop|Structured)",
+}
+OF_INSTRUCTIONS = re.compile(r"\d\.\d (?:3\.3\.[1-58]|4\.4\.[1-58]): ([\w.]+)$")
+
 
 class Sources(Texts):
     """Those that this tool reads."""
@@ -80,12 +88,26 @@ def places(sources):
     return found
 
 
+def misplaced(sources):
+    """The comments that name an instruction's rule over a case which doesn't have that instruction."""
+    for file, lines in sources.specs():
+        for at, line in enumerate(lines):
+            for rule in named(line):
+                name = OF_INSTRUCTIONS.match(rule)
+                if name and name[1] != "expression":
+                    word = CONSTRUCTORS.get(name[1], "".join(part.capitalize() for part in re.split(r"[._]", name[1])))
+                    below = next(one for one in lines[at + 1:] if not one.lstrip().startswith("--"))
+                    if not re.search(rf"\b{word}\b", below):
+                        yield f"{file}:{at + 1}: {rule} stands over a case without {word}: {below.strip()[:60]}"
+
+
 def faults(sources):
     stated, found = dict(sources.rules()), places(sources)
     faults = [f"{rule}: no definition names it" for rule, why in stated.items() if not why and rule not in found]
     faults += [f"{where[0]}: {rule}: tools/rules.txt has no such rule" for rule, where in found.items() if rule not in stated]
     faults += [f"{where[0]}: {rule}: tools/rules.txt says that it isn't stated" for rule, where in found.items() if stated.get(rule)]
     faults += [f"{rule} is named twice: {', '.join(where)}" for rule, where in found.items() if len(where) > 1]
+    faults += misplaced(sources)
     listed = [rule for rule, _ in sources.rules()]
     faults += [f"{LIST}: {rule} stands there twice" for rule in sorted(set(listed)) if listed.count(rule) > 1]
     for crate, names in FILES.items():
@@ -106,6 +128,7 @@ PLANTED = [  # what is wrong, and where which text becomes which
     ("a definition of our own doesn't say so", STEP, "-- own: both are of one type", "-- both are of one type"),
     ("an opcode names no rule", "crates/syntax/specs/Instructions.antt", "; i64.rotl", ""),
     ("a new case stands there without a rule", VALID, "  pub nested :", "  pub more : ⊥\n  pub nested :"),
+    ("a rule stands over another instruction", TYPING, r"3\.3\.4: t\.load\n((?:.*\n)*?)(.*)3\.3\.4: t\.store\n", r"3.3.4: t.store\n\1\g<2>3.3.4: t.load\n"),
     ("the list lacks a rule", LIST, "drop ; select", "drop"),
 ]
 

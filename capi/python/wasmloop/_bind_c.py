@@ -88,9 +88,12 @@ static inline int bind_place(bind_plugin *plugin, const char *allocator, bind_ar
     return status;
 }
 
-/* Gives the places back to the plug-in's own allocator. What the call before it did stays in `ended`. */
+/* Gives the places back to the plug-in's own allocator, unless the call did not return: then its backtrace stays that of the last call, and its heap
+ * may be in any state. What the call before it did stays in `ended`. */
 static inline int bind_free(bind_plugin *plugin, const bind_area *areas, int status)
 {
+    if (status == BIND_STOPPED)
+        return status;
     uint64_t at = areas[0].at;
     wasmloop_ended ended = plugin->ended;
     int freed = at ? bind_run(plugin, "free", &at, 1) : WASMLOOP_OK;

@@ -107,12 +107,15 @@ impl Bound {
         Ok(places)
     }
 
-    /// Gives the places back to the plug-in's own allocator.
-    fn free(&mut self, places: &[u32]) -> Result<(), Failure> {
-        if self.allocator == "malloc" {
-            self.run("free", &[places[0].into()])?;
+    /// Gives the places back to the plug-in's own allocator, unless the call did not return: then its backtrace stays that of the last call,
+    /// and its heap may be in any state.
+    fn freed<T>(&mut self, places: &[u32], made: Result<T, Failure>) -> Result<T, Failure> {
+        if self.allocator != "malloc" || matches!(made, Err(Failure::Error(Error::Stopped { .. }))) {
+            return made;
         }
-        Ok(())
+        let freed = self.run("free", &[places[0].into()]);
+        let made = made?;
+        freed.map(|_| made)
     }
 
     /// What a function wrote: `count` bytes, as it returned, or an error.
@@ -128,16 +131,21 @@ impl Bound {
         Ok(bytes)
     }
 
-    /// A text up to its zero.
+    /// A text up to its zero: the plug-in says how long it is, so it is read in parts that double.
     fn string(&mut self, at: u32) -> Result<String, Failure> {
-        let (mut bytes, mut byte) = (Vec::new(), [0]);
-        loop {
-            self.instance.read(at.wrapping_add(bytes.len() as u32), &mut byte)?;
-            match byte[0] {
-                0 => return text(bytes),
-                it => bytes.push(it),
+        let (mut bytes, mut at, mut step, size) = (Vec::new(), u64::from(at), 64, self.instance.size()?);
+        while at < size {
+            let mut part = vec![0; step.min(size - at) as usize];
+            self.instance.read(at as u32, &mut part)?;
+            if let Some(end) = part.iter().position(|&it| it == 0) {
+                bytes.extend(&part[..end]);
+                return text(bytes);
             }
+            at += part.len() as u64;
+            step *= 2;
+            bytes.append(&mut part);
         }
+        Err(Failure::Text)
     }
 }
 """
@@ -224,7 +232,10 @@ def method(header: Header, it: Function) -> str:
     if not areas:
         return "\n".join([*head, f"        {call}", "    }"])
     placed = f"        let places = self.bound.place(&[{', '.join(area(header, arg)[0] for arg in areas)}])?;"
-    return "\n".join([*head, placed, f"        let made = {call};", "        self.bound.free(&places)?;", f"        {last}", "    }"])
+    made = f"        let made = {call};\n        let made = self.bound.freed(&places, made);"
+    if last == "made":
+        made, last = f"        let made = {call};", "self.bound.freed(&places, made)"
+    return "\n".join([*head, placed, made, f"        {last}", "    }"])
 
 
 def written(header: Header) -> str:
@@ -235,7 +246,9 @@ def written(header: Header) -> str:
     head = (f"const TYPES: &[Typed] = &[\n{rows}\n];\n\n/// An instance with typed calls.\npub struct {name} {{\n    bound: Bound,\n}}\n\nimpl {name} {{\n"
             "    /// Creates an instance, if each function has its type in the module. `fuel` and `depth` are each call's limits.\n"
             "    pub fn new(module: &Module, fuel: u64, depth: u32) -> Result<Self, Failure> {\n"
-            f'        Bound::new(module, TYPES, "{header.allocator}", fuel, depth).map(|bound| Self {{ bound }})\n    }}\n')
+            f"        Bound::new(module, TYPES, \"{header.allocator}\", fuel, depth).map(|bound| Self {{ bound }})\n    }}\n\n"
+            "    /// The instance: its memory, and the backtrace of the last call.\n"
+            "    pub fn instance(&mut self) -> &mut Instance {\n        &mut self.bound.instance\n    }\n")
     methods = "\n\n".join(method(header, it) for it in header.functions if it.name not in ALLOCATORS)
     return "\n".join([f"//! Typed calls of a plug-in. Written by `python3 -m wasmloop.bind {header.name}.h`.\n{HELPERS}",
                       *map(struct_of, header.structs.values()), f"{head}\n{methods}\n}}\n"])

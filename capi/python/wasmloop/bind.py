@@ -29,7 +29,7 @@ import re
 import struct
 from typing import Any, Dict, List, NamedTuple, Tuple, TypeVar
 
-from . import ARGUMENTS, MEMORY, RANGE, Error, Instance, Module, _bind_c, _bind_rust, _tool, _whole, ask
+from . import ARGUMENTS, MEMORY, RANGE, Error, Instance, Module, Stopped, _bind_c, _bind_rust, _tool, _whole, ask
 from ._header import ALLOCATORS, NUMBERS, Arg, Function, Header, read, renamed
 
 _Kind = TypeVar("_Kind")
@@ -67,6 +67,14 @@ def text(value: str) -> Area:
     if b"\0" in data:
         raise Error(ARGUMENTS, "a zero in a text")
     return Area(data + b"\0", len(data) + 1, False)
+
+
+def decoded(name: str, data: bytes) -> str:
+    """The text that a function returned, which may be any bytes."""
+    try:
+        return data.decode()
+    except UnicodeDecodeError as why:
+        raise Error(ARGUMENTS, f"{name} returned a text that is not UTF-8: {why}") from None
 
 
 def packed(form: str, value: Tuple[int, ...]) -> Area:
@@ -154,15 +162,18 @@ class _Typed:
             raise Error(RANGE, f"{name} has {count} bytes for a room of {it.size}")
         return told, self.instance.memory[at:at + count]
 
-    def _string(self, at: int) -> str:
-        """The text at an address, up to its zero."""
-        memory, found, at = self.instance.memory, b"", at % 2**32
-        while b"\0" not in found:
-            step = min(64, len(memory) - at - len(found))
-            if step <= 0:
-                raise Error(RANGE, "the text is not zero-terminated")
-            found += memory[at + len(found):at + len(found) + step]
-        return found.split(b"\0")[0].decode()
+    def _string(self, name: str, at: int) -> str:
+        """The text at an address, up to its zero: each byte is read once, since the plug-in says how many there are."""
+        memory, found, at, step = self.instance.memory, bytearray(), at % 2**32, 64
+        size = len(memory)
+        while at < size:
+            part = memory[at:min(at + step, size)]
+            end = part.find(b"\0")
+            found += part if end < 0 else part[:end]
+            if end >= 0:
+                return decoded(name, bytes(found))
+            at, step = at + len(part), 2 * step
+        raise Error(RANGE, f"{name}: the text is not zero-terminated")
 
 
 class Plugin(_Typed):
@@ -176,6 +187,9 @@ class Plugin(_Typed):
         try:
             words, place, area = self._words(at, args)
             return self._told(name, self._run(name, *words), place, area)
+        except Stopped:
+            at = 0                                      # the backtrace stays that of this call, and the plug-in's heap may be in any state
+            raise
         finally:
             self._free(at)
 
@@ -228,11 +242,11 @@ def python_result(header: Header, it: Function, call: str) -> Tuple[str, str]:
     if out and out.kind == "struct":
         return camel(out.type), f'return {camel(out.type)}(*bind.unpacked("{header.structs[out.type].format}", {call}[1]))'
     if out:
-        return ("bytes", f"return {call}[1]") if out.kind == "bytes" else ("str", f"return {call}[1].decode()")
+        return ("bytes", f"return {call}[1]") if out.kind == "bytes" else ("str", f'return bind.decoded("{it.name}", {call}[1])')
     if it.result == "void":
         return "None", call
     if it.result == "text":
-        return "str", f"return self._string({call}[0])"
+        return "str", f'return self._string("{it.name}", {call}[0])'
     if it.result == "bool":
         return "bool", f"return bool({call}[0])"
     number = NUMBERS[it.result]

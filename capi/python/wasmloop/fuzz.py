@@ -4,12 +4,15 @@
     python3 -m wasmloop.fuzz guest.wasm 0 --per-byte 500
 
 A finding is an input that makes it trap, exceed the call depth, run out of fuel or use more than N units per byte. The input is written to
-GUEST.found, and the tool prints the command that repeats it. Inputs that reach new blocks are added to the corpus, a folder. The tool needs
-clang with libFuzzer (Debian: clang, with the libclang-rt-14-dev that it recommends).
+GUEST.found, or to GUEST.found.2 beside an earlier one, and the tool prints the command that repeats it. Inputs that reach new blocks are
+added to the corpus, a folder. The tool needs clang with libFuzzer (Debian: clang, with the libclang-rt-14-dev that it recommends).
 """
 
 import os
+import re
+import shlex
 import subprocess
+import sys
 import tempfile
 
 from . import _library, _tool, cc, lines, runs, wasm
@@ -87,8 +90,25 @@ def built(folder, blocks):
     return made
 
 
+def progress(stream, shown):
+    """Reads libFuzzer's messages to their end. Returns how many inputs ran and how many blocks they reached, and the last lines."""
+    runs_done, blocks, last = 0, 0, []
+    for line in stream:
+        last = [*last, line.rstrip()][-5:]
+        told = re.match(r"#(\d+)\s.*\bcov: (\d+)", line)
+        if told:
+            runs_done, blocks = int(told[1]), int(told[2])
+        if shown == "all":
+            sys.stderr.write(line)
+        elif shown and told:
+            print(f"\r{runs_done:,} inputs, {blocks} blocks reached", end="", file=sys.stderr, flush=True)
+    if shown and shown != "all":
+        print(file=sys.stderr)
+    return runs_done, blocks, last
+
+
 def fuzz(given, data, folder, found):
-    """Runs the fuzzer. Returns whether it wrote a finding."""
+    """Runs the fuzzer. Returns whether it wrote a finding, how many inputs ran, and how many blocks they reached."""
     code, costs = counted(data)
     files = {"GUEST": code, "COSTS": costs}
     for name, contents in files.items():
@@ -96,9 +116,19 @@ def fuzz(given, data, folder, found):
     environment = {**os.environ, **{it: os.path.join(folder, it) for it in files}, "OP": str(given.op % 2**32), "FUEL": str(given.fuel),
                    "DEPTH": str(min(given.depth + 1, 128)), "PER_BYTE": str(given.per_byte)}
     words = [f"-exact_artifact_path={found}", f"-max_total_time={given.seconds}", f"-max_len={given.most}", f"-seed={given.seed}", "-timeout=600"]
-    output = None if given.verbose else subprocess.DEVNULL
-    subprocess.run([built(folder, len(costs) // 4), *words, *([given.corpus] if given.corpus else [])], env=environment, stderr=output, check=False)
-    return os.path.isfile(found)
+    command = [built(folder, len(costs) // 4), *words, *([given.corpus] if given.corpus else [])]
+    with subprocess.Popen(command, env=environment, stderr=subprocess.PIPE, encoding="utf-8", errors="replace") as it:
+        ran, blocks, last = progress(it.stderr, "all" if given.verbose else sys.stderr.isatty())
+    is_found = os.path.isfile(found)
+    if it.returncode and not is_found:
+        raise _tool.Failed("\n".join([f"the fuzzer failed with status {it.returncode}:", *last]))
+    return is_found, ran, blocks
+
+
+def free_name(guest):
+    """Where a finding goes: GUEST.found, or GUEST.found.2 and so on beside earlier ones."""
+    names = (f"{guest}.found{'' if it == 1 else f'.{it}'}" for it in range(1, 10**6))
+    return next(it for it in names if not os.path.exists(it))
 
 
 def explained(given, data, host, found):
@@ -128,15 +158,17 @@ def main():
     host, _ = _tool.load(data, given.guest)
     if not host.shape().work:
         raise _tool.Failed("the module exports no uv_work", 2)
-    found = os.path.abspath(f"{given.guest}.found")
-    if os.path.isfile(found):
-        os.remove(found)
+    if given.corpus and not os.path.isdir(given.corpus):
+        raise _tool.Failed(f"{given.corpus}: no such folder: make it, or leave it out")
+    found = free_name(given.guest)
     with tempfile.TemporaryDirectory() as folder:
-        if not fuzz(given, data, folder, found):
-            print(f"no finding in {given.seconds} seconds")
-            return 0
+        is_found, ran, blocks = fuzz(given, data, folder, os.path.abspath(found))
+    if not is_found:
+        print(f"no finding in {given.seconds} seconds: {ran:,} inputs reached {blocks} blocks")
+        return 0
     print(explained(given, data, host, found))
-    print(f"repeat: wasmloop work {given.guest} {given.op} --in {given.guest}.found --fuel {given.fuel} --depth {given.depth}")
+    words = [given.guest, str(given.op % 2**32), "--in", found, "--fuel", str(given.fuel), "--depth", str(given.depth)]
+    print(f"repeat: wasmloop work {' '.join(map(shlex.quote, words))}")
     return 4
 
 

@@ -4,6 +4,14 @@
 #
 # usage: [PREFIX=/usr/local] [LIBDIR=PREFIX/lib] [PYTHONDIR=PREFIX/share/wasmloop/python] [DESTDIR=] ./install.sh [--uninstall]
 set -eu
+case ${1:-} in
+'' | --uninstall) ;;
+*)
+    echo 'usage: [PREFIX=/usr/local] [LIBDIR=PREFIX/lib] [PYTHONDIR=PREFIX/share/wasmloop/python] [DESTDIR=] ./install.sh [--uninstall]' >&2
+    [ "$1" = --help ] && exit
+    exit 2
+    ;;
+esac
 top=$(cd "$(dirname "$0")" && pwd)
 prefix=${PREFIX:-/usr/local}
 case $prefix in /*) ;; *) prefix=$PWD/$prefix ;; esac
@@ -76,4 +84,4 @@ files | while read -r rights from to; do
     install -m "$rights" "$from" "$root$to"
 done
 ln -sf libwasmloop.so.0 "$root$libdir/libwasmloop.so"
-echo "wasmloop $version is in $root$prefix; ./install.sh --uninstall with the same words removes it"
+echo "installed wasmloop $version in $root$prefix; to remove it, add --uninstall to the same command"

@@ -4,6 +4,13 @@
 #
 # usage: dist/pack.sh OUT
 set -eu
+case ${1:-} in
+'' | -*)
+    echo 'usage: dist/pack.sh OUT' >&2
+    [ "${1:-}" = --help ] && exit
+    exit 2
+    ;;
+esac
 top=$(cd "$(dirname "$0")/.." && pwd)
 mkdir -p "$1"
 out=$(cd "$1" && pwd) room=$(mktemp -d)

@@ -4,6 +4,14 @@
 #
 # usage: dist/prove.sh [program|library]
 set -eu
+case ${1:-} in
+'' | program | library) ;;
+*)
+    echo 'usage: dist/prove.sh [program|library]' >&2
+    [ "$1" = --help ] && exit
+    exit 2
+    ;;
+esac
 top=$(cd "$(dirname "$0")/.." && pwd)
 folder=$(mktemp -d)
 trap 'rm -rf "$folder"' EXIT

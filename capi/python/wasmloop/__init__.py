@@ -19,6 +19,7 @@ from __future__ import annotations
 import ctypes as c
 import functools
 import importlib
+import itertools
 import operator
 import os
 import sys
@@ -847,14 +848,19 @@ def _number(place: int, value: int, bits: int) -> int:
     return _whole(f"argument {place} (i{bits})", value, -(1 << bits - 1), (1 << bits) - 1, ARGUMENTS) & (1 << bits) - 1
 
 
+_numbers = itertools.count(2**31)                      # apart from those that a host gives
+
+
 class Loop(_Inspected):
-    """An event loop of a module. One thread at a time."""
+    """An event loop of a module. One thread at a time. `number` is copied into its jobs, by which `start` and `accept` know them: by default each loop
+    of the process has another one."""
 
     _kind = "loop"
 
-    def __init__(self, module: Module, number: int = 0, fuel: int = 1_000_000, work_fuel: int = 1_000_000, depth: int = 64):
+    def __init__(self, module: Module, number: Optional[int] = None, fuel: int = 1_000_000, work_fuel: int = 1_000_000, depth: int = 64):
         super().__init__()
-        bounds = _fuel("fuel", fuel), _fuel("work_fuel", work_fuel), _whole("number", number, 0, 2**32 - 1), _depth(depth)
+        self.number = next(_numbers) % 2**32 if number is None else number
+        bounds = _fuel("fuel", fuel), _fuel("work_fuel", work_fuel), _whole("number", self.number, 0, 2**32 - 1), _depth(depth)
         _call("loop", _held(Module, module), _Limits(*bounds), self.handle)
         self.turned, self._source = Turned(), module._source
 

@@ -27,9 +27,9 @@ class Loop(Plain):
     """A Loop that writes its calls to `note`, a path or a text file, up to `most` characters: then the last line is ["full"], and the loop runs
     on unrecorded. A call that raises has no effect, and is not written."""
 
-    def __init__(self, module, data, note, number=0, fuel=1_000_000, work_fuel=1_000_000, depth=64, most=256 << 20):
+    def __init__(self, module, data, note, number=None, fuel=1_000_000, work_fuel=1_000_000, depth=64, most=256 << 20):
         super().__init__(module, number, fuel, work_fuel, depth)
-        self._number, self._steps, self._left = number, 0, most
+        self._number, self._steps, self._left = self.number, 0, most
         self._ran, self._paused = 0, False              # of a turn that is to be written: its callbacks, and whether it has begun the one that is paused
         self._file, self._mine = (open(note, "w", encoding="ascii"), True) if isinstance(note, (str, bytes, os.PathLike)) else (note, False)
         self.note("loop", hashlib.sha256(data).hexdigest(), bytes(data).hex(), fuel, work_fuel, depth)

@@ -13,6 +13,8 @@
 //!
 //! A `Module` is `Sync`: several threads may use it at once. A `Loop`, an `Instance` and a `Job` are `Send`.
 
+pub mod ask;
+
 use std::ffi::{CStr, CString};
 use std::fmt;
 use std::os::raw::c_char;
@@ -994,8 +996,9 @@ impl Loop {
         known(&mut self.0, &mut job.0, status)
     }
 
-    /// Completes the request of a job that has run. False if the reply is stale: the request was cancelled, or is another loop's.
-    pub fn accept(&mut self, mut job: Job) -> Result<bool, Error> {
+    /// Completes the request of a job that has run, which leaves nothing in `job`. False if the reply is stale: the request was cancelled, or is
+    /// another loop's. After an error, the job is as it was: run it, or continue the paused callback, and offer it again.
+    pub fn accept(&mut self, job: &mut Job) -> Result<bool, Error> {
         let status = unsafe { wasmloop_accept(&mut self.0, &mut job.0) };
         known(&mut self.0, &mut job.0, status)
     }

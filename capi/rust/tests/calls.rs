@@ -126,9 +126,12 @@ fn a_loop_goes_by_turns() {
     let standing = one.standing().unwrap();
     assert_eq!((standing.alive, standing.failed), (1, 0));
     job.run().unwrap();
-    assert!(one.accept(job).unwrap());
-    let unrun = one.next_job().unwrap().unwrap();
-    assert_eq!(said(one.accept(unrun)), "the job has not run yet");
+    assert!(one.accept(&mut job).unwrap());
+    assert_eq!(said(one.accept(&mut job)), "the handle is empty");
+    let mut unrun = one.next_job().unwrap().unwrap();
+    assert_eq!(said(one.accept(&mut unrun)), "the job has not run yet");
+    unrun.run().unwrap();
+    assert!(one.accept(&mut unrun).unwrap());
     assert_eq!((one.request(0, b"abc").unwrap(), one.request(0, &[0; 65_537]).unwrap()), (5, -22));
     assert!(one.stop_told(b"").unwrap().is_none() && one.stop_places().unwrap().is_empty());
     let (size, mut first) = (one.size().unwrap(), [7; 4]);
@@ -162,7 +165,7 @@ fn a_loop_goes_by_slices() {
     let (mut paused, paused_says) = (Loop::new(&digests, LIMITS).unwrap(), "a callback is paused: continue it with step_for or turn_for");
     assert!(paused.turn_for(1, 1).unwrap().is_none());
     assert_eq!((said(paused.step()), said(paused.size()), said(paused.stop())), (paused_says.into(), paused_says.into(), paused_says.into()));
-    assert_eq!((said(paused.start(&mut job)), said(paused.accept(job))), (paused_says.into(), paused_says.into()));
+    assert_eq!((said(paused.start(&mut job)), said(paused.accept(&mut job))), (paused_says.into(), paused_says.into()));
     let mut calls = 0;
     let turned = loop {
         calls += 1;

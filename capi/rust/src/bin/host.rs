@@ -62,8 +62,8 @@ impl Guest {
         match wait {
             0 => Ok(None),
             _ if !self.jobs.is_empty() => {
-                let job = self.jobs.remove(0).join().expect("the job's thread ends");
-                self.core.accept(job)?;
+                let mut job = self.jobs.remove(0).join().expect("the job's thread ends");
+                self.core.accept(&mut job)?;
                 Ok(None)
             }
             u64::MAX => Ok(Some("waiting")),

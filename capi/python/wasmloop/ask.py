@@ -74,7 +74,7 @@ class Plugin:
         try:
             waits, it = moved(steps, None)
             while waits:
-                waits, it = moved(steps, await self.answer(it))
+                waits, it = moved(steps, await _awaitable(self.answer(it)))
         finally:
             steps.close()
         return it  # type: ignore[no-any-return]
@@ -110,10 +110,19 @@ class Plugin:
         return memory[start:start + length], place, room
 
     def _put(self, place: int, room: int, answer: Optional[bytes], fuel: int, depth: int) -> None:
-        held = (answer or b"")[:room]
+        if not isinstance(answer, (bytes, bytearray, memoryview, type(None))):
+            raise TypeError(f"an answer is bytes, or None if there is none; got {type(answer).__name__}")
+        held = bytes(answer or b"")[:room]
         self.instance.memory[place:place + len(held)] = held
         if self._call(fuel, depth, "ask_answer", NO_ANSWER if answer is None else len(answer)):
             raise Error(KIND, "the plug-in does not wait for an answer")
+
+
+def _awaitable(given: Any) -> Any:
+    """What the function that answers returned, if it can be awaited."""
+    if not hasattr(given, "__await__"):
+        raise TypeError(f"the function that answers must be async: it returned {type(given).__name__}")
+    return given
 
 
 def moved(steps: Steps, answer: Optional[bytes]) -> Tuple[bool, Any]:

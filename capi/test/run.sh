@@ -169,6 +169,12 @@ awk '/^```c$/ { inside = 1; next } /^```$/ { if (inside) exit } inside' "$top/do
 try cc $c -o "$out/first" "$out/first.c" "$lib/libwasmloop.a"
 [ "$("$out/first" "$examples/crc32.wasm" 2>&1)" = "$("$program" work "$examples/crc32.wasm" 0 616263 | sed 's/^done \([-0-9]*\) .*/\1/')" ] || fail "the first program of EMBEDDING.md"
 
+# a loop by itself, in C; in Python below
+counts='3 2 1 0 0'
+# shellcheck disable=SC2086
+try cc $c -o "$out/first_loop" "$hosts/first_loop.c" "$lib/libwasmloop.a"
+[ "$("$out/first_loop" "$examples/countdown.wasm" | xargs)" = "$counts" ] || fail "first_loop.c"
+
 if command -v pkg-config > /dev/null; then
     export PKG_CONFIG_PATH="$lib/pkgconfig"
     # shellcheck disable=SC2046
@@ -223,6 +229,7 @@ if command -v python3 > /dev/null; then
     compare 'host_asyncio.py in real time' '--loops 1 --workers 1' "python3 '$hosts/host_asyncio.py' \"\$1\"" counted
     prints host.py cancels "$cancelled" "python3 '$hosts/host.py' \"\$1\" 1"
     prints host_asyncio.py cancels "$cancelled" "python3 '$hosts/host_asyncio.py' \"\$1\""
+    [ "$(python3 "$hosts/first_loop.py" "$examples/countdown.wasm" | tr -d '[]' | xargs)" = "$counts" ] || fail "first_loop.py"
     try python3 "$here/calls_test.py" "$examples" "$program"
     tail -1 "$out/said"
     if python3 -m pip --version > /dev/null 2>&1; then

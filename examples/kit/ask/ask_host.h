@@ -3,7 +3,8 @@
  *     ask_call call = { .plugin = &plugin, .name = "total", .args = args, .count = 1, .limits = { 1000000, 64, 0 } };
  *     int status = ask_begin(&call);
  *     while (status == WASMLOOP_OK && call.waits) {
- *         wasmloop_read(&plugin, call.question, bytes, call.length);           (at most sizeof bytes)
+ *         size_t known = call.length < sizeof bytes ? call.length : sizeof bytes;     (the plug-in chooses the length)
+ *         wasmloop_read(&plugin, call.question, bytes, known);
  *         status = ask_go_on(&call, answer, length);
  *     }
  *

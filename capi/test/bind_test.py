@@ -10,12 +10,13 @@ import json
 import random
 import shutil
 import sys
+import time
 import zlib
 from pathlib import Path
 
 import expecting
 from expecting import run, same
-from wasmloop import Error, Module, OutOfRange, _bind_c, _bind_rust, _header, _tool, bind
+from wasmloop import Error, Module, OutOfRange, Stopped, _bind_c, _bind_rust, _header, _tool, bind
 
 OUT, SEED = Path(sys.argv[1]), int(sys.argv[2]) if sys.argv[2:] else 1
 HERE = Path(__file__).resolve().parent
@@ -117,6 +118,44 @@ def headers():
     same("another type", raised(Error, lambda: made.Other(Module(data))), "add: expected [32] to [32], found [32] to [64]")
     made = bound("other", "int32_t gone(void);")
     same("no such function", raised(Error, lambda: made.Other(Module(data))), "no function is exported as 'gone'")
+
+
+LIES_H = """
+#include <stddef.h>
+#include <stdint.h>
+#define EXPORT(name) __attribute__((export_name(#name)))
+EXPORT(endless) const char *endless(void);
+EXPORT(broken) const char *broken(void);
+EXPORT(fails) int32_t fails(const uint8_t *data, uint32_t data_size);
+EXPORT(malloc) void *malloc(size_t size);
+EXPORT(free) void free(void *at);
+"""
+LIES_C = LIES_H + """
+static char text[(1 << 22) - 65536];
+void *malloc(size_t size) { (void)size; return text + 16; }
+void free(void *at) { (void)at; }
+int32_t fails(const uint8_t *data, uint32_t data_size) { (void)data; return data_size ? 0 : (__builtin_trap(), 1); }
+const char *broken(void) { return "\\xff"; }
+const char *endless(void)
+{
+    for (uint64_t *at = (uint64_t *)8192; (size_t)at < __builtin_wasm_memory_size(0) * 65536 - 64; at += 8)
+        at[0] = at[1] = at[2] = at[3] = at[4] = at[5] = at[6] = at[7] = 0x2020202020202020;
+    return (const char *)8192;
+}
+"""
+
+
+def lies():
+    """A plug-in that returns what it should not holds no host: each ends as an Error, in a time that goes by the bytes; a trap keeps its backtrace."""
+    (OUT / "lies.c").write_text(LIES_C)
+    data, made = built("lies", OUT / "lies.c", "-fno-builtin"), bound("lies", LIES_H)
+    with Module(data) as module, made.Lies(module) as plugin:
+        began = time.process_time()
+        count = len(raised(Error, plugin.endless))
+        same("four million bytes of text are read in seconds", (count > 0, time.process_time() - began < 10), (True, True))
+        same("a text that is not UTF-8", raised(Error, plugin.broken).split(":")[0], "broken returned a text that is not UTF-8")
+        same("a trap", raised(Stopped, lambda: plugin.fails(b"")).split(",")[0], "fails trapped: unreachable")
+        same("its backtrace", "(unreachable)" in (plugin.instance.stop_told(data) or ""), True)
 
 
 HOST_C = r"""
@@ -255,7 +294,7 @@ def main():
         if not shutil.which(tool):
             print(f"left out: bind: there is no {tool}")
             return 0
-    for part in (kinds, headers, hosts, orders):
+    for part in (kinds, headers, lies, hosts, orders):
         part()
     return expecting.wrong != 0
 

@@ -116,6 +116,8 @@ def calls():
         with wasmloop.Loop(asking, number=1) as other:
             job = loop.next_job()
             same((other.start(job), loop.start(job), loop.start(job)), (False, True, False))
+        with wasmloop.Loop(asking) as other:
+            same(other.accept(job.run()), False)
         for wrong in (lambda: loop.send(16), lambda: loop.clock(-1), lambda: loop.cancel(2**32), lambda: loop.turn(0)):
             refused(wrong, wasmloop.RANGE)
         turned = loop.turn()

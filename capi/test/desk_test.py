@@ -602,7 +602,9 @@ def fuzz_part():
     if not file or not guests.has_fuzzer():
         print("skipped: fuzz: clang or its libFuzzer is missing")
         return
-    found = Path(f"{file}.found")
+    found, first = Path(f"{file}.found"), b""
+    for old in found.parent.glob(found.name + "*"):
+        old.unlink()
     for words, told in (([], "trapped: division by zero"), (["--per-byte", "2"], "units, more than 2 per byte")):
         ran = subprocess.run([sys.executable, "-m", "wasmloop.fuzz", str(file), "0", "--most", "32", "--seconds", "60", "--seed", "3", *words],
                              capture_output=True, check=False)
@@ -611,6 +613,10 @@ def fuzz_part():
             bad(f"fuzz {words}: status {ran.returncode}: {said}")
         elif not words:
             same("the finding", wasmloop.Module(file.read_bytes()).work(0, found.read_bytes()).outcome, "trap")
+            first = found.read_bytes()
+    same("an earlier finding stays", (found.read_bytes(), Path(f"{found}.2").is_file()), (first, True))
+    ran = subprocess.run([sys.executable, "-m", "wasmloop.fuzz", str(file), "0", str(OUT / "absent")], capture_output=True, check=False)
+    same("a corpus that is not there", (ran.returncode, b"no such folder" in ran.stderr), (1, True))
     print("fuzz: the planted fault, and units per byte")
 
 

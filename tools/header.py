@@ -276,9 +276,9 @@ def wrong_calls(sources):
 
 
 def left_out(sources, public, file):
-    """The calls of the header that a language doesn't make: Rust by their names, Python by _call, _text or the library's attribute."""
+    """The calls of the header that a language doesn't make: Rust by their names, Python by _call, _text or the library's attribute, called or typed."""
     text = sources.plain(RUST) if file == RUST else sources.text(PYTHON)
-    made = set(re.findall(r"(?<!fn )\bwasmloop_(\w+)" if file == RUST else r"\b_lib\.wasmloop_(\w+)\(|\b_(?:call|text)\(\"(\w+)\"", text))
+    made = set(re.findall(r"(?<!fn )\bwasmloop_(\w+)" if file == RUST else r"\b_lib\.wasmloop_(\w+)(?:\(|\.argtypes)|\b_(?:call|text)\(\"(\w+)\"", text))
     made = {name for it in made for name in ([it] if isinstance(it, str) else it)}
     return [name for name in public if name not in made and (file, name) not in INSTEAD]
 

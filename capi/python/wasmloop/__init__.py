@@ -513,6 +513,12 @@ class _Inspected(_Runs):
         return _signed(told.number, 32 * told.value_type)
 
 
+# The calls that run slices, made often: their types stand once.
+_lib.wasmloop_job_run_for.argtypes = [c.c_void_p, c.c_uint64, c.c_void_p]
+_lib.wasmloop_call_run_for.argtypes = [c.c_void_p, c.c_uint64, c.c_void_p, c.c_void_p]
+_run_job, _run_call = _lib.wasmloop_job_run_for, _lib.wasmloop_call_run_for
+
+
 class Reply(NamedTuple):
     """The result of a job. `outcome` is "done", "trap", "depth" (call-depth limit exceeded), "spent" (out of fuel) or "nomemory" (allocation
     failed); `number` the signed result if it is "done", else the trap's number or 0; `data` the reply's bytes; `used` the fuel used, in units;
@@ -539,6 +545,10 @@ class Job(_Runs):
     """One run of a module's uv_work. Any thread may run it."""
 
     _kind, _most = "job", 17
+
+    def __init__(self) -> None:
+        super().__init__()
+        self._over = c.c_uint32()
 
     def _about(self) -> str:
         about = self.about()
@@ -570,9 +580,13 @@ class Job(_Runs):
     def run_for(self, units: int) -> bool:
         """Runs a slice of at most `units` units of fuel, or fewer once it has copied more than 64 bytes for each. True if the job is over,
         with the result that run() gives."""
-        over = c.c_uint32()
-        _call("job_run_for", self.handle, c.c_uint64(_whole("units", units, 1, 2**64 - 1)), c.byref(over))
-        return bool(over.value)
+        over = self._over
+        if type(units) is not int or not 0 < units < 2**64:
+            units = _whole("units", units, 1, 2**64 - 1)
+        status = _run_job(c.byref(self.handle), units, c.byref(over))
+        if status != OK:
+            raise _failed(status, "job_run_for", self.handle)
+        return over.value == 1
 
     def reply(self) -> Reply:
         """The result, once the job has run."""
@@ -801,16 +815,21 @@ class Call:
 
     def __init__(self, instance: Instance, name: str):
         self._instance, self._name, self._ended = instance, name, None  # type: Instance, str, Optional[_Ended]
+        self._over, self._room = c.c_uint32(), _Ended()
 
     def run_for(self, units: int) -> bool:
         """Runs a slice of at most `units` units of fuel. True if the call is over, with the result that Instance.call gives."""
         if self._ended is not None:
             raise Error(KIND, "the call is over")
-        over, ended = c.c_uint32(), _Ended()
-        _call("call_run_for", self._instance.handle, c.c_uint64(_whole("units", units, 1, 2**64 - 1)), c.byref(over), ended)
+        over, ended, handle = self._over, self._room, self._instance.handle
+        if type(units) is not int or not 0 < units < 2**64:
+            units = _whole("units", units, 1, 2**64 - 1)
+        status = _run_call(c.byref(handle), units, c.byref(over), c.byref(ended))
+        if status != OK:
+            raise _failed(status, "call_run_for", handle)
         if over.value:
             self._ended = ended
-        return bool(over.value)
+        return over.value == 1
 
     def result(self) -> Union[None, int, Tuple[int, ...]]:
         """What Instance.call returns or raises, once the call is over."""

@@ -38,6 +38,11 @@ def bound(name, text):
     header = _header.read(name, text)
     for file, made in ((f"{name}.py", bind.written(header)), (f"{name}_host.h", _bind_c.written(header)), (f"{name}.rs", _bind_rust.written(header))):
         (OUT / file).write_text(made)
+    return loaded(name)
+
+
+def loaded(name):
+    """A module that `bind` wrote."""
     spec = importlib.util.spec_from_file_location(name, OUT / f"{name}.py")
     module = importlib.util.module_from_spec(spec)
     spec.loader.exec_module(module)
@@ -111,6 +116,7 @@ def headers():
         ("int64_t f(char *x, uint32_t x_room);" + room, "h.h:1: expected one output at most, with a result int32_t: int64_t f(char *x, uint32_t x_room)"),
         ("int32_t close(void);", "h.h:1: close is a name of the classes: int32_t close(void)"),
         ("int f;", "h.h:1: expected a function, or a struct of numbers: int f"),
+        ("int32_t f(int32_t x);\nint32_t f(int64_t x);", "h.h:2: f is declared before, with another type: int32_t f(int64_t x)"),
     ):
         same(text, raised(_tool.Failed, lambda text=text: _header.read("h", text)), why)
     made = bound("other", "int32_t add(int32_t by); int32_t gone(void);")
@@ -118,6 +124,33 @@ def headers():
     same("another type", raised(Error, lambda: made.Other(Module(data))), "add: expected [32] to [32], found [32] to [64]")
     made = bound("other", "int32_t gone(void);")
     same("no such function", raised(Error, lambda: made.Other(Module(data))), "no function is exported as 'gone'")
+
+
+WORDS_H = """#include <stdint.h>
+#define EXPORT(name) __attribute__((export_name(#name)))
+struct part { int32_t class, type; };
+EXPORT(match) int32_t match(int32_t from);
+int32_t match(int32_t from);
+EXPORT(lambda) int32_t lambda(const struct part *in);
+EXPORT(room) void *room(uint32_t size);
+"""
+WORDS_C = WORDS_H + """
+static char space[4096];
+int32_t match(int32_t from) { return from + 1; }
+int32_t lambda(const struct part *in) { return in->class * 10 + in->type; }
+void *room(uint32_t size) { return size > sizeof space ? 0 : space; }
+"""
+
+
+def names():
+    """Functions, arguments and fields whose names are words of Python or Rust; one declaration twice; a byte order mark, and bytes of no UTF-8."""
+    (OUT / "words.c").write_text(WORDS_C)
+    (OUT / "words.h").write_bytes(b"\xef\xbb\xbf" + WORDS_H.encode() + b"// caf\xe9\n")
+    run(sys.executable, "-m", "wasmloop.bind", OUT / "words.h", "-o", OUT)
+    data, made = built("words", OUT / "words.c"), loaded("words")
+    with Module(data) as module, made.Words(module) as plugin:
+        same("a function and a struct", (plugin.match(6), plugin.lambda_(made.Part(1, 2))), (7, 12))
+        same("fields", made.Part._fields, ("class_", "type"))
 
 
 LIES_H = """
@@ -230,6 +263,18 @@ fn main() -> Result<(), Failure> {
     Ok(())
 }
 """
+WORDS_RUST = r"""
+mod words;
+use wasmloop::Module;
+use words::{Failure, Part, Words};
+
+fn main() -> Result<(), Failure> {
+    let bytes = std::fs::read(std::env::args().last().unwrap()).unwrap();
+    let mut plugin = Words::new(&Module::new(&bytes)?, 1_000, 64)?;
+    println!("{} {}", plugin.match_(6)?, plugin.lambda(&Part { class: 1, type_: 2 })?);
+    Ok(())
+}
+"""
 TOLD = "-7 218 2 352441c2 xyzxyz LOUD 3,15 9,18446744073709551608,0,65531 1"
 
 
@@ -259,10 +304,11 @@ def in_rust():
         return
     words = [rustc, "--edition", "2021", "--out-dir", OUT]
     run(*words, "--crate-name", "wasmloop", "--crate-type", "rlib", "-L", TOP / "dist", "-l", "static=wasmloop", TOP / "capi" / "rust" / "src" / "lib.rs")
-    for name in ("kinds", "heap"):
-        (OUT / f"{name}_host.rs").write_text(HOST_RUST.replace("NAME", name).replace("CLASS", name.capitalize()))
+    hosts_of = {name: (HOST_RUST.replace("NAME", name).replace("CLASS", name.capitalize()), TOLD) for name in ("kinds", "heap")}
+    for name, (source, told) in {**hosts_of, "words": (WORDS_RUST, "7 12")}.items():
+        (OUT / f"{name}_host.rs").write_text(source)
         run(*words, "-D", "warnings", "-L", OUT, "--extern", f"wasmloop={OUT}/libwasmloop.rlib", OUT / f"{name}_host.rs")
-        same(f"the host of {name} in Rust", run(OUT / f"{name}_host", OUT / f"{name}.wasm").split("\n")[0], TOLD)
+        same(f"the host of {name} in Rust", run(OUT / f"{name}_host", OUT / f"{name}.wasm").split("\n")[0], told)
     print("bind: hosts in C and Rust get the same")
 
 
@@ -294,7 +340,7 @@ def main():
         if not shutil.which(tool):
             print(f"left out: bind: there is no {tool}")
             return 0
-    for part in (kinds, headers, lies, hosts, orders):
+    for part in (kinds, headers, names, lies, hosts, orders):
         part()
     return expecting.wrong != 0
 

@@ -4,10 +4,11 @@ from __future__ import annotations
 
 from typing import Tuple
 
-from ._header import ALLOCATORS, NUMBERS, Arg, Function, Header, Struct, renamed
+from ._header import ALLOCATORS, NUMBERS, Arg, Function, Header, Struct, free, renamed
 
-TAKEN = """as async await box break const continue crate dyn else enum extern false fn for if impl in let loop match mod move mut pub ref return self
-    static struct super trait true type unsafe use where while told places made""".split()
+WORDS = """as async await box break const continue crate dyn else enum extern false fn for if impl in let loop match mod move mut pub ref return self
+    static struct super trait true type unsafe use where while""".split()
+TAKEN = (*WORDS, "told", "places", "made")
 
 HELPERS = r"""#![allow(dead_code)]
 
@@ -228,7 +229,7 @@ def method(header: Header, it: Function) -> str:
     kind, then, last = result_of(header, it, areas.index(it.out) if it.out else 0)
     args = ", ".join(["&mut self", *filter(None, map(declared, it.args))])
     call = f'self.bound.run("{it.name}", &[{words(header, it)}]){then}'
-    head = [f"    /// {it.text}", f"    pub fn {it.name}({args}) -> Result<{kind}, Failure> {{"]
+    head = [f"    /// {it.text}", f"    pub fn {free(it.name, WORDS)}({args}) -> Result<{kind}, Failure> {{"]
     if not areas:
         return "\n".join([*head, f"        {call}", "    }"])
     placed = f"        let places = self.bound.place(&[{', '.join(area(header, arg)[0] for arg in areas)}])?;"
@@ -240,7 +241,7 @@ def method(header: Header, it: Function) -> str:
 
 def written(header: Header) -> str:
     """The whole module."""
-    header = renamed(header, TAKEN)
+    header = renamed(header, TAKEN, WORDS)
     rows = "\n".join(f'    ("{it.name}", &{[bits // 32 for bits in it.params]}, &{[bits // 32 for bits in it.results]}),' for it in header.functions)
     name = camel(header.name)
     head = (f"const TYPES: &[Typed] = &[\n{rows}\n];\n\n/// An instance with typed calls.\npub struct {name} {{\n    bound: Bound,\n}}\n\nimpl {name} {{\n"

@@ -193,7 +193,10 @@ def read(name: str, text: str) -> Header:
             elif found[2] in ALLOCATORS:
                 allocators.append(found[2])
             else:
-                functions.append(function_of(structs, found))
+                made, before = function_of(structs, found), next((it for it in functions if it.name == found[2]), None)
+                if before and (before.params, before.results) != (made.params, made.results):
+                    raise ValueError(f"{made.name} is declared before, with another type")
+                functions += [made] * (before is None)
         except ValueError as why:
             raise _tool.Failed(f"{name}.h:{line}: {why}: {told}") from None
     allocator = "room" if "room" in allocators else "malloc" if {"malloc", "free"} <= set(allocators) else ""
@@ -204,8 +207,13 @@ def read(name: str, text: str) -> Header:
     return Header(name, structs, functions + kept, allocator)
 
 
-def renamed(header: Header, taken: Iterable[str]) -> Header:
-    """The header, in which no argument has a name that a language or a writer takes."""
-    def free(arg: Arg) -> Arg:
-        return arg._replace(name=f"{arg.name}_") if arg.name in taken else arg
-    return header._replace(functions=[it._replace(args=[free(arg) for arg in it.args]) for it in header.functions])
+def free(name: str, taken: Iterable[str]) -> str:
+    """A name that a language or a writer does not take."""
+    return f"{name}_" if name in taken else name
+
+
+def renamed(header: Header, taken: Iterable[str], fields: Iterable[str] = ()) -> Header:
+    """The header, in which no argument has a name of `taken`, and no field one of `fields`."""
+    structs = {name: Struct(it.name, [(kind, free(field, fields)) for kind, field in it.fields]) for name, it in header.structs.items()}
+    return header._replace(structs=structs, functions=[it._replace(args=[arg._replace(name=free(arg.name, taken)) for arg in it.args])
+                                                       for it in header.functions])

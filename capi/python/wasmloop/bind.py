@@ -30,7 +30,7 @@ import struct
 from typing import Any, Dict, List, NamedTuple, Tuple, TypeVar
 
 from . import ARGUMENTS, MEMORY, RANGE, Error, Instance, Module, Stopped, _bind_c, _bind_rust, _tool, _whole, ask
-from ._header import ALLOCATORS, NUMBERS, Arg, Function, Header, read, renamed
+from ._header import ALLOCATORS, NUMBERS, Arg, Function, Header, free, read, renamed
 
 _Kind = TypeVar("_Kind")
 
@@ -218,7 +218,7 @@ TAKEN = (*keyword.kwlist, "self", "bind")
 
 
 def camel(name: str) -> str:
-    return "".join(it[:1].upper() + it[1:] for it in name.split("_"))
+    return free("".join(it[:1].upper() + it[1:] for it in name.split("_")), keyword.kwlist)
 
 
 def python_arg(header: Header, arg: Arg) -> Tuple[str, str]:
@@ -258,12 +258,12 @@ def python_method(header: Header, it: Function, asks: bool) -> str:
     passed = ", ".join([f'"{it.name}"', *(told for _, told in args)])
     kind, statement = python_result(header, it, f"(await self._call({passed}))" if asks else f"self._call({passed})")
     declared = ", ".join(["self", *(told for told, _ in args if told)])
-    return f'    {"async " * asks}def {it.name}({declared}) -> {kind}:\n        """{it.text}"""\n        {statement}'
+    return f'    {"async " * asks}def {free(it.name, keyword.kwlist)}({declared}) -> {kind}:\n        """{it.text}"""\n        {statement}'
 
 
 def written(header: Header, asks: bool = False) -> str:
     """The class, and a tuple for each struct."""
-    header, parts = renamed(header, TAKEN), []
+    header, parts = renamed(header, TAKEN, keyword.kwlist), []
     for it in header.structs.values():
         fields = "\n".join(f"    {name}: {'bool' if kind == 'bool' else 'int'}" for kind, name in it.fields)
         parts.append(f"class {camel(it.name)}(NamedTuple):\n{fields}")
@@ -282,7 +282,7 @@ def main() -> int:
     parser.add_argument("--asks", action="store_true", help="the plug-in asks: the class's methods are awaited, as wasmloop.ask says")
     given_words = parser.parse_args()
     name = re.sub(r"\W", "_", os.path.splitext(os.path.basename(given_words.header))[0])
-    header = read(name, _tool.read(given_words.header).decode())
+    header = read(name, _tool.read(given_words.header).decode("utf-8-sig", "replace"))
     texts = {f"{name}.py": written(header, given_words.asks), f"{name}_host.h": _bind_c.written(header), f"{name}.rs": _bind_rust.written(header)}
     for file, made in texts.items():
         _tool.write(os.path.join(given_words.folder, file), made)

@@ -144,7 +144,8 @@ int wasmloop_job_run(wasmloop_handle *job);
  * A slice that pauses uses all its units, or fewer, at least one, once in_copy and out_set have copied more than 64 bytes per unit in it.
  * A paused job may be dropped; wasmloop_job_about reports the fuel that it has used; wasmloop_stop, wasmloop_stop_places and
  * wasmloop_stop_told report where it stands; every other call on it returns KIND.
- * Only the first slice allocates; if that fails, the job is over with the outcome WASMLOOP_WORK_MEMORY. RANGE: `units` is 0. KIND: the job is over. */
+ * If an allocation of the first slice fails, the job is over with the outcome WASMLOOP_WORK_MEMORY; the last slice may allocate to shorten the
+ * reply, and a failure there has no effect. RANGE: `units` is 0. KIND: the job is over. */
 int wasmloop_job_run_for(wasmloop_handle *job, uint64_t units, uint32_t *over);
 
 /* about.outcome */
@@ -309,7 +310,8 @@ int wasmloop_step(wasmloop_handle *loop, wasmloop_did *did);
  * values and the loop are those of wasmloop_step. Sets *over to 0 if its callback is paused: it has fuel left, and the next slice continues it,
  * in this thread or another. A slice that pauses uses all its units, or fewer, at least one, once calls of "uv" have copied more than 64 bytes per
  * unit in it. While a callback is paused you may drop the loop, or continue with wasmloop_step_for or wasmloop_turn_for; every other call on the
- * loop returns KIND. Only the first slice of a step allocates. RANGE: `units` is 0. If *over is 0, *did is not written. */
+ * loop returns KIND. Only the first slice of a step returns MEMORY; what the guest's queue_work copies is allocated in the slice that runs it, and a
+ * failure there is -12 to the guest. RANGE: `units` is 0. If *over is 0, *did is not written. */
 int wasmloop_step_for(wasmloop_handle *loop, uint64_t units, uint32_t *over, wasmloop_did *did);
 
 #define WASMLOOP_FOREVER UINT64_MAX

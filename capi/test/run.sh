@@ -135,6 +135,7 @@ checked="-g -O1 -fsanitize=address,undefined -fno-sanitize-recover"
     try cc $c $checked -o "$out/edges_test" "$here/edges_test.c" "$lib/libwasmloop.a"
     try cc $c $checked -o "$out/slices_test" "$here/slices_test.c" "$lib/libwasmloop.a"
     try cc $c $checked -o "$out/steps_test" "$here/steps_test.c" "$lib/libwasmloop.a"
+    try cc $c $checked -o "$out/turn_units" "$here/turn_units.c" "$lib/libwasmloop.a"
     try cc $c $checked -Wl,--wrap=malloc,--wrap=realloc -o "$out/later_slices" "$here/later_slices.c" "$lib/libwasmloop.a"
     try cc $c -g -O1 -fsanitize=thread -o "$out/calls_test_threads" "$here/calls_test.c" "$lib/libwasmloop.a" -lpthread
     try cc $c $checked -Wl,--wrap=malloc,--wrap=realloc -o "$out/refuse_memory" "$here/refuse_memory.c" "$lib/libwasmloop.a"
@@ -147,6 +148,7 @@ checked="-g -O1 -fsanitize=address,undefined -fno-sanitize-recover"
 "$out/edges_test" "$examples" || fail "the edges, under AddressSanitizer"
 "$out/slices_test" "$examples" || fail "jobs in slices, under AddressSanitizer"
 "$out/steps_test" "$examples" || fail "loops in slices, under AddressSanitizer"
+"$out/turn_units" "$examples" || fail "the units of turns in slices"
 "$out/later_slices" "$examples" || fail "what later slices allocate"
 races
 dangles

@@ -61,7 +61,7 @@ struct tenant {
     wasmloop_handle module;
     task *load;
     int status;           /* of its last load */
-    bool changed, lives;  /* its file is newer than the last load; its module has a loop */
+    bool changed, unread, lives; /* its file is newer than the last load, its .conf could not be read; its module has a loop */
     char *said, *failure; /* why its file was rejected, and its guest's last failure */
     tasks waits, asks;
     uint32_t waiting, running, asking, fails; /* fails: how many of its requests have failed since one succeeded */

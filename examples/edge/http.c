@@ -244,10 +244,29 @@ static int on_head(http_parser *p) {
     return 0;
 }
 
+static const char *fed; /* the end of what is being parsed */
+
+/* The bytes at `at` behind a chunk, as far as they have come: CR LF. (libhttp-parser takes any two, as Debian builds it, and a proxy in front may
+ * not: then the two would not agree on where a request ends.) */
+static int behind_chunk(client *c, const char *at) {
+    for (; c->behind && at < fed; at++)
+        if (*at != (c->behind-- == 2 ? '\r' : '\n')) return refused(c, 400, "a chunk without CR LF at its end");
+    return 0;
+}
+
+static int on_chunk(http_parser *p) {
+    client *c = p->data;
+    c->chunk = p->content_length;
+    return 0;
+}
+
 static int on_body(http_parser *p, const char *at, size_t n) {
     client *c = p->data;
     if (n > MOST_BYTES - c->body.length) return refused(c, 413, TOO_LONG);
-    return hold(c, &c->body, at, n) ? 0 : refused(c, 503, "no room for the body");
+    if (!hold(c, &c->body, at, n)) return refused(c, 503, "no room for the body");
+    if (!(p->flags & F_CHUNKED) || (c->chunk -= n)) return 0;
+    c->behind = 2;
+    return behind_chunk(c, at + n);
 }
 
 static int on_end(http_parser *p) {
@@ -263,6 +282,7 @@ static const http_parser_settings settings = { .on_message_begin = on_begin,
     .on_header_field = on_field,
     .on_header_value = on_value,
     .on_headers_complete = on_head,
+    .on_chunk_header = on_chunk,
     .on_body = on_body,
     .on_message_complete = on_end };
 
@@ -270,6 +290,8 @@ static const http_parser_settings settings = { .on_message_begin = on_begin,
 
 /* Parses up to the end of a request, and handles it. Returns how many bytes it took. */
 static size_t feed(client *c, const char *at, size_t n) {
+    fed = at + n;
+    if (behind_chunk(c, at)) return n;
     size_t took = http_parser_execute(&c->parser, &settings, at, n);
     int stands = HTTP_PARSER_ERRNO(&c->parser);
     if (stands != HPE_OK && !c->busy) refused(c, 400, http_errno_description(stands));

@@ -1,9 +1,11 @@
 /* Tenants and their files. A module that changes on disk is loaded beside the old one, which serves until then, and keeps serving if the new one
  * is rejected; a tenant whose file is removed is removed too. */
 #include <errno.h>
+#include <fcntl.h>
 #include <search.h>
 #include <stdlib.h>
 #include <string.h>
+#include <sys/stat.h>
 #include <unistd.h>
 #include "http.h"
 
@@ -12,11 +14,17 @@
 struct tenants tenants;
 static void *names; /* the tree of their names */
 
-/* Opens NAME.KIND of the folder; NULL, with errno, if it can't be read. */
+/* Opens NAME.KIND of the folder; NULL, with errno, if it can't be read, or is no file: to open a FIFO would wait for its writer. */
 FILE *open_file(const tenant *t, const char *kind) {
     char path[512];
+    struct stat is;
     snprintf(path, sizeof path, "%s/%s.%s", folder, t->name, kind);
-    return fopen(path, "rb");
+    int fd = open(path, O_RDONLY | O_NONBLOCK | O_CLOEXEC);
+    if (fd < 0) return NULL;
+    errno = EINVAL;
+    FILE *file = fstat(fd, &is) == 0 && S_ISREG(is.st_mode) ? fdopen(fd, "rb") : NULL;
+    if (!file) close(fd);
+    return file;
 }
 
 /* ---- a module ---- */
@@ -55,6 +63,7 @@ static void loaded(task *k) {
     wasmloop_shape shape = { 0 };
     t->load = NULL;
     t->status = k->status;
+    t->changed |= k->status == WASMLOOP_MEMORY; /* what was wanting may come back: again at the next sweep */
     free(t->said);
     t->said = *k->said ? strdup(k->said) : NULL;
     if (anew) {
@@ -100,6 +109,9 @@ static void read_limits(tenant *t) {
         [OUT] = { "out", 32768, 1, 1 << 30 } };
     char key[32], value[64];
     FILE *file = open_file(t, "conf");
+    bool first = t->limits[FUEL] == 0;
+    t->unread = !file && errno != ENOENT; /* (its limits stay until it can be read) */
+    if (t->unread && !first) return;
     for (int i = 0; i < LIMITS; i++) t->limits[i] = known[i].usual;
     if (workers > 2) t->limits[RUN] = workers - 1;
     free(t->type);
@@ -154,6 +166,7 @@ void tenant_changed(const char *file) {
 void tenants_sweep(bool all) {
     for (tenant *t = LIST_FIRST(&tenants), *next; t; t = next) {
         next = LIST_NEXT(t, next);
+        if (t->unread) read_limits(t);
         if (t->changed) load(t);
         if ((t->status != ABSENT && !all) || t->waiting || t->running || t->clients || t->load) continue;
         LIST_REMOVE(t, next);

@@ -381,6 +381,10 @@ def changes(s):
     until("and no more counted", lambda: s.number("tenants") == before - 1)
     put(s, "mine.wasm", hello)
     s.wants("and back", 200, "hello, abc", "/mine", b"abc")
+    os.mkfifo(s.folder / "fifo.wasm")
+    os.mkfifo(s.folder / "crc32.lines")
+    check(s.ask("/fifo")[0] >= 400, "a FIFO as a module")
+    s.wants("beside a FIFO", 200, "hello, abc", "/mine", b"abc")
 
 
 def loops_change(s):
@@ -562,6 +566,38 @@ def short(s):
     s.wants("memory again", 200, "", "/bombs")
 
 
+def descriptors():
+    """Without a free descriptor, the old module and limits serve; those of changed files are read once there is one."""
+    s = Server(hello="fuel 5\n", **{name: "" for name in ("mine", "sha256")})
+    hello, open_files = (GUESTS / "hello.wasm").read_bytes(), f"/proc/{s.process.pid}/fd"
+    put(s, "mine.wasm", (GUESTS / "crc32.wasm").read_bytes())
+    with contextlib.closing(http.client.HTTPConnection("127.0.0.1", s.port, timeout=120)) as link:
+
+        def ask(name):
+            link.request("POST", f"/{name}", b"abc")
+            answer = link.getresponse()
+            return answer.status, answer.read()
+
+        before = [ask(it) for it in ("hello", "mine")]
+        check(before[0][0] == 504 and before[1] == (200, b"\x35\x24\x41\xc2"), "before", before)
+        most = len(os.listdir(open_files)) + 8
+        resource.prlimit(s.process.pid, resource.RLIMIT_NOFILE, (most, resource.getrlimit(resource.RLIMIT_NOFILE)[1]))
+        links = [s.connect() for _ in range(40)]
+        until("no descriptor is free", lambda: len(os.listdir(open_files)) >= most)
+        put(s, "hello.conf", b"fuel 5\n")
+        put(s, "mine.wasm", hello)
+        time.sleep(0.5)
+        got = [ask(it) for it in ("hello", "mine")]
+        check(got[0][0] == 504 and got[1] == before[1], "without descriptors", got)
+        check(ask("sha256")[0] == 503, "a module that cannot be opened")
+        for it in links:
+            it.close()
+        until("a module that was not read", lambda: s.ask("/mine", b"abc")[:2] == (200, b"hello, abc"))
+        until("a module that was not opened", lambda: s.ask("/sha256", b"abc")[0] == 200)
+        s.wants("limits that were not read", 504, "", "/hello")
+    s.end()
+
+
 def bounds():
     broken_too()
     s = Server("-t", "300", "-x", "127.0.0.1", slow=f"{ENDLESS}queue 4096\nrun 1\ndeadline 3600000\n", hello="type text/plain\n")
@@ -570,6 +606,7 @@ def bounds():
     s.wants("after crowds", 200, "hello, you", "/hello", b"you")
     s.end()
     unread()
+    descriptors()
 
 
 def end():
@@ -740,6 +777,14 @@ def broken(s):
     for what, data, status in tried:
         got = s.raw(data)
         check(head(got) == status and b"Connection: close" in got, what, got)
+    for data in b"3\r\nabcXY0\r\n\r\n", b"3\r\nabc\r\r0\r\n\r\n", b"3\r\nabc\n\n0\r\n\r\n", b"1\r\na\r\n1\r\nbX\n0\r\n\r\n":
+        for cut in range(len(data) + 1):
+            with s.connect() as c, contextlib.suppress(OSError):
+                c.sendall(post + b"Transfer-Encoding: chunked\r\n\r\n" + data[:cut])
+                time.sleep(0.002)
+                c.sendall(data[cut:])
+                got = read_all(c)
+                check(head(got) == 400, "a chunk without CR LF at its end", data, cut, got)
     got = s.raw(b"POST /hello HTTP/1.0\r\nContent-Length: 2\r\n\r\nme")
     check(got.endswith(b"hello, me") and b"Connection: close" in got, "HTTP/1.0", got)
     with s.connect() as c:

@@ -7,6 +7,8 @@
 #include <stdlib.h>
 #include <string.h>
 #include <sys/resource.h>
+#include <sys/socket.h>
+#include <sys/un.h>
 #include <unistd.h>
 #include "http.h"
 
@@ -15,7 +17,9 @@ enum { SWEEP_MS = 100 };
 uv_loop_t *uv;
 const char *folder;
 uint32_t workers = 4;
-bool ending;
+bool ending, draining;
+static uint64_t grace;
+static uv_timer_t drain;
 
 static const char *address = "127.0.0.1";
 static uv_timer_t sweeper;
@@ -86,11 +90,32 @@ static void on_sweep(uv_timer_t *timer) {
     if (ending && clients == 0 && LIST_EMPTY(&tenants)) uv_timer_stop(timer);
 }
 
-static void on_signal(uv_signal_t *signal, int number) {
-    (void)signal, (void)number;
+/* Tells systemd (sd_notify's protocol: a datagram to $NOTIFY_SOCKET). */
+static void notify(const char *what) {
+    struct sockaddr_un to = { .sun_family = AF_UNIX };
+    const char *path = getenv("NOTIFY_SOCKET");
+    int fd = path && strlen(path) < sizeof to.sun_path ? socket(AF_UNIX, SOCK_DGRAM | SOCK_CLOEXEC, 0) : -1;
+    if (fd < 0) return;
+    strcpy(to.sun_path, path);
+    if (*path == '@') to.sun_path[0] = 0;
+    sendto(fd, what, strlen(what), MSG_NOSIGNAL, (struct sockaddr *)&to, (socklen_t)(offsetof(struct sockaddr_un, sun_path) + strlen(path)));
+    close(fd);
+}
+
+static void end(uv_timer_t *timer) {
+    (void)timer;
     if (!ending) serve_no_more();
     ending = true;
     on_sweep(&sweeper);
+}
+
+/* The first signal: /-/health is 503 for `-g` seconds, while load balancers notice; a second one, or then: it ends. */
+static void on_signal(uv_signal_t *signal, int number) {
+    (void)signal, (void)number;
+    if (!draining) notify("STOPPING=1");
+    if (draining || grace == 0) end(NULL);
+    else uv_timer_start(&drain, end, grace * 1000, 0);
+    draining = true;
 }
 
 static void on_change(uv_fs_event_t *event, const char *file, int events, int status) {
@@ -101,12 +126,13 @@ static void on_change(uv_fs_event_t *event, const char *file, int events, int st
 /* Parses the options. Returns the port, or 0. */
 static int options(int argc, char **argv) {
     int port = 8080;
-    for (int o; (o = getopt(argc, argv, "a:p:w:t:c:x:r:")) != -1;) {
+    for (int o; (o = getopt(argc, argv, "a:p:w:t:c:x:r:g:")) != -1;) {
         uint64_t n = o == 'a' || o == 'r' ? 1 : o == 'x' ? (uint64_t)inet_aton(optarg, &proxy) : optarg ? number_of(optarg, 1000000) : 0;
         if (o == '?' || n == UINT64_MAX || n == 0) return 0;
         if (o == 'a') address = optarg;
         if (o == 'p') port = (int)n;
         if (o == 'w') workers = n < 128 ? (uint32_t)n : 128;
+        if (o == 'g') grace = n;
         if (o == 't') patience = n * 1000;
         if (o == 'c') most_clients = (uint32_t)n;
         if (o == 'r') setenv("WASMLOOP_RECORD", optarg, 1), setenv("WASMLOOP_RECORD_KEEP", "failed", 0);
@@ -133,7 +159,7 @@ int main(int argc, char **argv) {
     static uv_fs_event_t changes;
     int port = options(argc, argv), told;
     if (port == 0) {
-        fprintf(stderr, "usage: edge [-a ADDRESS] [-p PORT] [-w WORKERS] [-t SECONDS] [-c CLIENTS] [-x PROXY] [-r RECORDS] FOLDER\n");
+        fprintf(stderr, "usage: edge [-a ADDRESS] [-p PORT] [-w WORKERS] [-t SECONDS] [-c CLIENTS] [-x PROXY] [-r RECORDS] [-g GRACE] FOLDER\n");
         return 2;
     }
     provide();
@@ -147,10 +173,13 @@ int main(int argc, char **argv) {
         uv_signal_start(&signals[i], on_signal, i ? SIGTERM : SIGINT);
         uv_unref((uv_handle_t *)&signals[i]);
     }
+    uv_timer_init(uv, &drain);
+    uv_unref((uv_handle_t *)&drain);
     uv_timer_init(uv, &sweeper);
     uv_timer_start(&sweeper, on_sweep, SWEEP_MS, SWEEP_MS);
     uv_fs_event_init(uv, &changes);
     uv_unref((uv_handle_t *)&changes);
     if (uv_fs_event_start(&changes, on_change, folder, 0) != 0) fprintf(stderr, "edge: changes in %s will not be seen\n", folder);
+    notify("READY=1");
     return uv_run(uv, UV_RUN_DEFAULT);
 }

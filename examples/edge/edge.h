@@ -79,7 +79,7 @@ struct tenant {
 extern uv_loop_t *uv;
 extern const char *folder;
 extern uint32_t workers, running, waiting;
-extern bool ending;
+extern bool ending, draining; /* draining: it was told to end, and still serves */
 extern LIST_HEAD(tenants, tenant) tenants;
 extern atomic_bool hurry; /* a tenant that could run waits, and all threads are busy */
 

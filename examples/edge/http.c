@@ -4,6 +4,7 @@
 #include <stdlib.h>
 #include <string.h>
 #include <sys/socket.h>
+#include <unistd.h>
 #include "http.h"
 
 enum { IDLE_MS = 60000, LINGER_MS = 2000, NO_CODING = -1, CHUNKED = 7, OTHER_CODING };
@@ -392,8 +393,11 @@ void clients_sweep(void) {
 int serve(const char *address, int port) {
     struct sockaddr_in at;
     int told = uv_ip4_addr(address, port, &at);
+    const char *given = getenv("LISTEN_FDS"), *to = getenv("LISTEN_PID");
     uv_tcp_init(uv, &server);
-    if (told == 0) told = uv_tcp_bind(&server, (struct sockaddr *)&at, 0);
+    /* (systemd's socket outlives a restart, so no connection is refused meanwhile) */
+    if (given && to && atoi(given) == 1 && atoi(to) == getpid()) told = uv_tcp_open(&server, 3);
+    else if (told == 0) told = uv_tcp_bind(&server, (struct sockaddr *)&at, 0);
     return told == 0 ? uv_listen((uv_stream_t *)&server, 4096, on_connection) : told;
 }
 

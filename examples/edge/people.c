@@ -1,6 +1,7 @@
 /* Metrics, the access log on standard output, and pages:
  *
  *     GET /-/metrics       Prometheus' text format
+ *     GET /-/health        200, or 503 while it shuts down
  *     GET /-/tenants       by tabs: name, state, 1 if it has a loop, why its file was rejected, its last failure
  *     GET /-/log/NAME      a loop's last steps
  *     GET /-/              FOLDER/dashboard.html */
@@ -8,6 +9,7 @@
 #include <malloc.h>
 #include <stdlib.h>
 #include <string.h>
+#include <sys/resource.h>
 #include <time.h>
 #include <unistd.h>
 #include "http.h"
@@ -31,6 +33,9 @@ typedef struct steps {
 static char lines[1 << 16]; /* of the access log, not yet written */
 static size_t lines_length, lines_lost;
 
+static uint64_t answered[6]; /* responses by their class */
+static time_t began;         /* when the server began */
+
 /* ---- the access log and counters ---- */
 
 /* Counts a request that is answered, or whose client has disconnected. */
@@ -47,6 +52,7 @@ void count(tenant *t, outcome what, uint64_t came) {
 
 /* Makes standard output non-blocking: reopened, so that other processes that have it see no change; if that fails, as it is. */
 void log_begin(void) {
+    began = time(NULL);
     int own = open("/proc/self/fd/1", O_WRONLY | O_APPEND | O_NONBLOCK | O_CLOEXEC);
     if (own >= 0)
         dup2(own, STDOUT_FILENO), close(own);
@@ -63,6 +69,7 @@ void log_flush(void) {
 }
 
 void log_answer(client *c, int status, size_t length) {
+    answered[status / 100 < 6 ? status / 100 : 0]++;
     static time_t at;
     static char moment[32];
     char path[sizeof c->path], line[sizeof path + 256];
@@ -145,6 +152,46 @@ static void write_server(FILE *to) {
     for (size_t k = 0; k < sizeof numbers / sizeof *numbers; k++) {
         write_type(to, numbers[k].name, numbers[k].type, numbers[k].help);
         fprintf(to, "edge_%s %zu\n", numbers[k].name, numbers[k].value);
+    }
+}
+
+static void write_process_number(FILE *to, const char *name, const char *type, const char *help, double value) {
+    fprintf(to, "# HELP process_%s %s\n# TYPE process_%s %s\nprocess_%s %.3f\n", name, help, name, type, name, value);
+}
+
+static double seconds(struct timeval used) { return (double)used.tv_sec + (double)used.tv_usec / 1e6; }
+
+/* What Prometheus' client libraries export of each process, and the build. */
+static void write_process(FILE *to) {
+    struct rusage used;
+    size_t resident = 0;
+    uv_resident_set_memory(&resident);
+    getrusage(RUSAGE_SELF, &used);
+    write_type(to, "build_info", "gauge", "1, with the library's version.");
+    fprintf(to, "edge_build_info{version=\"%s\"} 1\n", wasmloop_version());
+    write_type(to, "responses_total", "counter", "Responses by the class of their status.");
+    for (int k = 1; k < 6; k++) fprintf(to, "edge_responses_total{class=\"%dxx\"} %llu\n", k, U(answered[k]));
+    write_process_number(to, "start_time_seconds", "gauge", "When the process began, in seconds since 1970.", (double)began);
+    write_process_number(to, "resident_memory_bytes", "gauge", "Resident memory.", (double)resident);
+    write_process_number(to, "cpu_seconds_total", "counter", "Processor time, user and system.", seconds(used.ru_utime) + seconds(used.ru_stime));
+}
+
+/* The durations as a histogram, which, unlike quantiles, can be added up over servers and cut by time: each other power of two, 64 us to 16.8 s. */
+static void write_durations(FILE *to) {
+    write_type(to, "duration_seconds", "histogram", "From a request's first byte to its answer.");
+    for (tenant *t = LIST_FIRST(&tenants); t; t = LIST_NEXT(t, next)) {
+        static const char form[] = "edge_duration_seconds_%s{tenant=\"%s\"%s} %.6f\n";
+        char bound[32];
+        uint64_t seen = 0;
+        for (int k = 0; k < TIMES; k++) {
+            seen += t->counted.times[k];
+            if (k < 6 || k > 24 || k % 2) continue;
+            snprintf(bound, sizeof bound, ",le=\"%.6f\"", (double)(1u << k) / 1e6);
+            fprintf(to, form, "bucket", t->name, bound, (double)seen);
+        }
+        fprintf(to, form, "bucket", t->name, ",le=\"+Inf\"", (double)seen);
+        fprintf(to, form, "sum", t->name, "", (double)t->counted.lived / 1e6);
+        fprintf(to, form, "count", t->name, "", (double)seen);
     }
 }
 
@@ -248,6 +295,10 @@ static bool write_file(FILE *to, const char *name) {
 
 /* Answers GET /-/PATH. */
 void page(client *c, const char *path) {
+    if (strcmp(path, "health") == 0) { /* load balancers ask it: 503 from the first SIGTERM on */
+        say(c, draining ? 503 : 200, draining ? "draining\n" : "ok\n");
+        return;
+    }
     char *at = NULL;
     size_t length = 0;
     FILE *to = open_memstream(&at, &length);
@@ -258,7 +309,7 @@ void page(client *c, const char *path) {
         return;
     }
     if (numbers)
-        write_server(to), write_numbers(to), write_requests(to);
+        write_server(to), write_process(to), write_numbers(to), write_requests(to), write_durations(to);
     else if (strcmp(path, "tenants") == 0)
         write_tenants(to);
     else if (t)

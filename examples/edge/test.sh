@@ -71,7 +71,7 @@ for how; do
     plain)
         CFLAGS=-Werror "$here/build.sh" "$out/plain" "$library" || exit 1
         "$here/bench/plain.sh" "$out/over_c" || { say 'FAILED: bench/plain.sh'; failed=1; }
-        part "$out/plain" "$out/guests" functions bounds end clients $strict
+        part "$out/plain" "$out/guests" functions bounds end operators clients $strict
         if has chromium; then part "$out/plain" "$out/guests" page; else left_out 'the page: there is no chromium'; fi
         soak "$out/plain" 10
         leak 10
@@ -82,10 +82,10 @@ for how; do
         fi ;;
     addresses)
         CC=clang CFLAGS='-g -O1 -fsanitize=address,undefined -fno-sanitize-recover=undefined' "$here/build.sh" "$out/addresses" "$library" || exit 1
-        ASAN_OPTIONS=quarantine_size_mb=8 part "$out/addresses" "$out/guests" functions bounds end clients $strict ;;
+        ASAN_OPTIONS=quarantine_size_mb=8 part "$out/addresses" "$out/guests" functions bounds end operators clients $strict ;;
     threads)
         CC=clang CFLAGS='-g -O1 -fsanitize=thread' "$here/build.sh" "$out/threads" "$library" || exit 1
-        part "$out/threads" "$out/guests" functions bounds end clients $strict ;;
+        part "$out/threads" "$out/guests" functions bounds end operators clients $strict ;;
     long)
         "$here/build.sh" "$out/plain" "$library" || exit 1
         CC=clang CFLAGS='-g -O1 -fsanitize=address,undefined -fno-sanitize-recover=undefined' "$here/build.sh" "$out/addresses" "$library" || exit 1

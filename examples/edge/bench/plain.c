@@ -57,6 +57,7 @@ int wasmloop_drop(wasmloop_handle *handle) {
 
 const char *wasmloop_outcome_name(uint32_t outcome) { return outcome == WASMLOOP_WORK_DONE ? "done" : "not run"; }
 const char *wasmloop_status_name(int status) { return (void)status, "?"; }
+const char *wasmloop_version(void) { return "plain"; }
 const char *wasmloop_trap_name(uint32_t trap) { return (void)trap, "?"; }
 const char *wasmloop_ending_name(uint32_t ending) { return (void)ending, "?"; }
 

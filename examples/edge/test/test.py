@@ -1,6 +1,6 @@
 """Tests the server: responses and limits, hostile tenants, a loop, modules that change, shutdown, and hostile clients.
 
-usage: test.py EDGE GUESTS PART..     EDGE: the program; GUESTS: a folder of modules; PART: functions, bounds, end, page (by chromium), python,
+usage: test.py EDGE GUESTS PART..     EDGE: the program; GUESTS: a folder of modules; PART: functions, bounds, end, operators, page (by chromium), python,
 strict (by h11), vectors (of Twisted), attacks (by slowhttptest), clients, hostile (LOAD names the program of bench/load.c), or a number,
 which is the same as clients with that many connections that only stand (else 1,000)
 """
@@ -163,10 +163,11 @@ def parse_metrics(text):
             check(name not in closed, "a family of metrics stands twice", name)
         elif line.startswith("# TYPE "):
             kind = line.split()[3]
-            check(line.split()[2] == name and kind in ("counter", "gauge", "summary"), "a type", line)
+            check(line.split()[2] == name and kind in ("counter", "gauge", "summary", "histogram"), "a type", line)
         else:
-            m = re.fullmatch(r'([a-z_]+)(?:\{((?:[a-z]+="[a-z0-9_.-]*",?)*)\})? (\d+(?:\.\d+)?(?:e[+-]?\d+)?)', line)
-            check(m and (not kind or re.sub("_(sum|count)$" if kind == "summary" else "^$", "", m[1]) == name), "a line of metrics", line)
+            m = re.fullmatch(r'([a-z_]+)(?:\{((?:[a-z]+="[A-Za-z0-9_.+-]*",?)*)\})? (\d+(?:\.\d+)?(?:e[+-]?\d+)?)', line)
+            more = {"summary": "_(sum|count)$", "histogram": "_(sum|count|bucket)$"}.get(kind, "^$")
+            check(m and (not kind or re.sub(more, "", m[1]) == name), "a line of metrics", line)
             check(m and (kind != "counter" or name.endswith("_total")), "a counter's name", line)
             if m:
                 check((m[1], m[2]) not in values, "a value stands twice", line)
@@ -422,7 +423,11 @@ def many(s, count=200):
 def numbers(s):
     values = s.metrics()
     check(values.get(("edge_requests_total", 'tenant="spin",outcome="spent"'), 0) >= 1, "outcomes are counted", values)
+    check(values["process_resident_memory_bytes", None] > MIB and values["edge_responses_total", 'class="2xx"'] > 0, "the process", values)
     for (name, labels), value in values.items():
+        if name == "edge_duration_seconds_count":
+            check(value == values["edge_duration_seconds_bucket", f'{labels},le="+Inf"'] >= values["edge_duration_seconds_bucket", f'{labels},le="1.048576"'],
+                  "a histogram", labels, value)
         if name == "edge_latency_seconds":
             tenant = re.match('tenant="[^"]*"', labels)[0]
             check(value <= values["edge_latency_worst_seconds", tenant] + 1e-6, "a quantile above the worst", labels, value)
@@ -624,6 +629,48 @@ def end():
         got = first.result()[0], [it.result()[0] for it in rest]
         check(got == (504, [503, 503, 503]) and b"not done by its deadline" in first.result()[1], "the end", got, first.result()[1])
         check(read_all(stands) == b"", "a connection that stands")
+
+
+AS_SYSTEMD = """import os, sys
+os.dup2(int(sys.argv[1]), 3)
+os.environ.update(LISTEN_FDS="1", LISTEN_PID=str(os.getpid()))
+os.execv(sys.argv[2], sys.argv[2:])"""
+
+
+class Activated(Server):
+    """The program as systemd starts it: with a socket that outlives it, and one for its notifications."""
+
+    def __init__(self, listener, told, *options):
+        self.listener, self.told = listener, told
+        super().__init__(*options)
+
+    def listens(self):
+        if not self.process:
+            self.port, number = self.listener.getsockname()[1], self.listener.fileno()
+            words = [sys.executable, "-c", AS_SYSTEMD, str(number), EDGE, *self.options, str(self.folder)]
+            env = {**os.environ, "NOTIFY_SOCKET": self.told.getsockname()}
+            self.process = subprocess.Popen(words, env=env, pass_fds=[number], stdout=self.log, stderr=subprocess.PIPE, text=True)
+            check(self.told.recv(100) == b"READY=1", "it is ready")
+        return self.process.poll() is None
+
+
+def operators():
+    """With -g a server is drained: its health is 503, and it serves until a second signal or its time. The next one takes its socket over."""
+    with tempfile.TemporaryDirectory() as folder, socket.socket(socket.AF_UNIX, socket.SOCK_DGRAM) as told, socket.create_server(("127.0.0.1", 0)) as listener:
+        told.bind(f"{folder}/told")
+        told.settimeout(120)
+        first = Activated(listener, told, "-g", "3600")
+        first.wants("health", 200, "ok", "/-/health", None, method="GET")
+        first.process.send_signal(signal.SIGTERM)
+        check(told.recv(100) == b"STOPPING=1", "it ends")
+        first.wants("health in its last hour", 503, "draining", "/-/health", None, method="GET")
+        first.wants("a request in its last hour", 200, "hello, you", "/hello", b"you")
+        first.end()
+        second = Activated(listener, told, "-g", "1")
+        second.wants("a server that takes the socket over", 200, "hello, you", "/hello", b"you")
+        began = time.monotonic()
+        second.end()
+        check(time.monotonic() - began >= 1, "a second of draining", time.monotonic() - began)
 
 
 def page():

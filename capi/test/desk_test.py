@@ -2,7 +2,8 @@
 
 usage: PYTHONPATH=capi/python WASMLOOP_LIBRARY=LIBRARY desk_test.py PROGRAM OUT [PART..]
 
-The parts are lines, hosts, units, callbacks, covered, warm, log, fuzz and words; default: all. Parts that need a missing compiler are skipped with a message.
+The parts are lines, hosts, units, callbacks, covered, warm, log, instances, fuzz and words; default: all. Parts that need a missing compiler are
+skipped with a message.
 """
 
 import collections
@@ -21,7 +22,7 @@ from pathlib import Path
 import desk_guests as guests
 import desk_pprof
 import wasmloop
-from wasmloop import _tool, callbacks, callgrind, counts, cover, freeze, lines, log, lower, pprof, profile, record, replay, runs, tree, wasm
+from wasmloop import _tool, callbacks, callgrind, counts, cover, freeze, lines, log, lower, plugin_record, pprof, profile, record, replay, runs, tree, wasm
 
 PROGRAM, OUT = os.path.abspath(sys.argv[1]), Path(sys.argv[2])
 EXAMPLES = Path(__file__).resolve().parent.parent.parent / "examples"
@@ -596,6 +597,53 @@ def log_part():
     print("log: requests, instances and recorded loops")
 
 
+def recorded(host, data, path):
+    """Records an instance: calls that return, calls in slices, one that traps, one that is given up. Returns the memory before the one that traps."""
+    with plugin_record.Instance(host, data, path) as it:
+        at = it.call("place")
+        for n in range(21):
+            it.memory[at:at + 3] = bytes([n % 3, 1, 1])
+            same(f"call {n + 2}", it.call("add", 3), 1000 // (66 - sum(k % 3 + 2 for k in range(n + 1))))
+        call = it.begin("spin", 500)
+        while not call.run_for(300):
+            pass
+        it.memory[at:at + 3] = b"\1\1\1"
+        before = it.memory[0:len(it.memory)]
+        try:
+            it.call("add", 3)
+            bad("the last call of add returned")
+        except wasmloop.Stopped as why:
+            same("how it stopped", "division by zero" in str(why), True)
+        it.begin("spin", 1 << 20).run_for(1000)
+    return before
+
+
+def instances_part():
+    """A recorded plug-in fails again, at the same call; the module that is written before it stands as it stood."""
+    file, path, out = guests.built(OUT, EXAMPLES, "keeps"), str(OUT / "keeps.record"), str(OUT / "keeps_before.wasm")
+    if not file:
+        return
+    data = file.read_bytes()
+    before = recorded(wasmloop.Module(data), data, path)
+    tool = [sys.executable, "-m", "wasmloop.plugin_record", path]
+    ran = subprocess.run(tool, capture_output=True, check=False, encoding="utf-8")
+    same("a record that is repeated", (ran.returncode, ran.stdout), (4, "25 calls, 2 did not return\n"))
+    for words in "call 24: add(3)", "division by zero", "call 25: spin(1048576)", "after 1000 units":
+        same(words, words in ran.stderr, True)
+    ran = subprocess.run([*tool, "--before", "24", "-o", out], capture_output=True, check=False, encoding="utf-8")
+    same("the module before a call", (ran.returncode, ran.stdout), (0, f"{out} starts before call 24: --call add,3 --fuel 1000000\n"))
+    with wasmloop.Module.open(out) as module, module.instance() as it:
+        same("its memory", it.memory[0:len(it.memory)] == before, True)
+        try:
+            it.call("add", 3)
+            bad("the call returned in the module before it")
+        except wasmloop.Stopped:
+            pass
+    ran = subprocess.run([*tool, "--before", "26", "-o", out], capture_output=True, check=False, encoding="utf-8")
+    same("a call that is not there", (ran.returncode, "--before 26 is not 1 to 25" in ran.stderr), (2, True))
+    print("instances: 25 recorded calls are repeated, and a module stands before one of them")
+
+
 def fuzz_part():
     """The fuzzer finds the planted fault, and the input that it writes repeats it; and an input that costs too much per byte."""
     file = guests.built(OUT, EXAMPLES, "planted")
@@ -694,7 +742,7 @@ def words_part():
 def main():
     warnings.simplefilter("ignore", wasmloop.InertImports)      # (as the tools do)
     OUT.mkdir(parents=True, exist_ok=True)
-    for part in sys.argv[3:] or ("lines", "hosts", "units", "callbacks", "covered", "warm", "log", "fuzz", "words"):
+    for part in sys.argv[3:] or ("lines", "hosts", "units", "callbacks", "covered", "warm", "log", "instances", "fuzz", "words"):
         globals()[f"{part}_part"]()
     print("desk: " + ("no failures" if not wrong else f"{wrong} failures"))
     return 1 if wrong else 0

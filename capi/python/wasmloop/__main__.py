@@ -2,7 +2,7 @@
 
 import importlib
 
-TOOLS = "cc", "lower", "lines", "record", "replay", "log", "profile", "cover", "fuzz", "freeze", "ask", "bind"
+TOOLS = "cc", "lower", "lines", "record", "replay", "plugin_record", "log", "profile", "cover", "fuzz", "freeze", "ask", "bind"
 
 
 def main():

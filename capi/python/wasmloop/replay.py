@@ -26,8 +26,8 @@ class Wrong(_tool.Failed):
     """The file is not a record."""
 
 
-def rows_of(file):
-    """The rows of a record, a list each. A last line that was cut off is dropped."""
+def rows_of(file, of="loop", count=6):
+    """The rows of a record of a loop, a list each. A last line that was cut off is dropped."""
     rows = []
     for number, line in enumerate(_tool.read(file).decode("ascii", "replace").split("\n"), 1):
         try:
@@ -37,8 +37,8 @@ def rows_of(file):
             if rows and line[0] == "[" and line[-1] != "]":
                 break
             raise Wrong(f"{file}, line {number}: not a line of a record") from None
-    if not rows or not isinstance(rows[0], list) or rows[0][:1] != ["loop"] or len(rows[0]) != 6:
-        raise Wrong(f"{file} is not a record: its first line describes no loop")
+    if not rows or not isinstance(rows[0], list) or rows[0][:1] != [of] or len(rows[0]) != count:
+        raise Wrong(f"{file} is not a record: its first line describes no {of}")
     return rows
 
 

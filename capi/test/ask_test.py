@@ -172,6 +172,52 @@ async def crowd_of(module, count):
     return plugins[0].used
 
 
+HOST_RUST = r"""
+use wasmloop::ask::{Call, Stage};
+use wasmloop::{Error, Instance, Module};
+
+fn price(question: &[u8]) -> Option<Vec<u8>> {
+    let number = i32::from_le_bytes(question.try_into().ok()?);
+    Some((number * 7 % 1000).to_le_bytes().to_vec())
+}
+
+/// What a function returns, and how often it asked.
+fn called(data: &[u8], name: &str, articles: u64, is_known: bool) -> Result<(i64, u32), Error> {
+    let mut plugin = Instance::new(&Module::new(data)?, 1_000_000, 64)?;
+    let mut call = Call::new(name, &[articles], 10_000_000, 64);
+    let (mut stage, mut questions) = (call.begin(&mut plugin)?, 0);
+    loop {
+        match stage {
+            Stage::Over(ended) => return Ok((ended.results()[0] as i64, questions)),
+            Stage::Asks(question) => {
+                questions += 1;
+                let answer = if is_known { price(&question) } else { None };
+                stage = call.answer(&mut plugin, answer.as_deref())?;
+            }
+        }
+    }
+}
+
+fn main() -> Result<(), Error> {
+    let data = std::fs::read(std::env::args().last().unwrap()).unwrap();
+    println!("{:?} {:?} {:?}", called(&data, "total", 20, true)?, called(&data, "total", 3, false)?, called(&data, "estimate", 20, true)?);
+    Ok(())
+}
+"""
+
+
+def host_in_rust():
+    """A host in Rust on the plug-in in C: all answers, none, and a function that never asks."""
+    words = expecting.rustc(OUT)
+    if not words:
+        print("left out: the host in Rust: there is no rustc")
+        return
+    (OUT / "asks.rs").write_text(HOST_RUST)
+    run(*words, OUT / "asks.rs")
+    (OUT / "cart.wasm").write_bytes(plugin(ASK / "ask.c", ASK / "cart.c"))
+    same("the host in Rust", run(OUT / "asks", OUT / "cart.wasm").strip(), f"({total(20)}, 20) (-1, 1) ({total(20)}, 0)")
+
+
 def examples():
     """The plug-ins of the kit in C and in Rust, by asyncio and by the host in C."""
     run("cc", "-std=c11", "-Wall", "-Wextra", "-Werror", "-g", "-O1", "-fsanitize=address,undefined", "-fno-sanitize-recover", "-I", ASK, "-I",
@@ -314,7 +360,7 @@ def main():
         if not shutil.which(tool):
             print(f"left out: questions: there is no {tool}")
             return 0
-    for part in (fuzz, examples, never, named, typed, faults):
+    for part in (fuzz, examples, host_in_rust, never, named, typed, faults):
         part()
     return expecting.wrong != 0
 

@@ -298,16 +298,14 @@ def hosts():
 
 
 def in_rust():
-    rustc = next((it for it in ("/usr/bin/rustc", shutil.which("rustc")) if it and Path(it).exists()), None)
-    if not rustc:
+    words = expecting.rustc(OUT)
+    if not words:
         print("left out: bind: there is no rustc")
         return
-    words = [rustc, "--edition", "2021", "--out-dir", OUT]
-    run(*words, "--crate-name", "wasmloop", "--crate-type", "rlib", "-L", TOP / "dist", "-l", "static=wasmloop", TOP / "capi" / "rust" / "src" / "lib.rs")
     hosts_of = {name: (HOST_RUST.replace("NAME", name).replace("CLASS", name.capitalize()), TOLD) for name in ("kinds", "heap")}
     for name, (source, told) in {**hosts_of, "words": (WORDS_RUST, "7 12")}.items():
         (OUT / f"{name}_host.rs").write_text(source)
-        run(*words, "-D", "warnings", "-L", OUT, "--extern", f"wasmloop={OUT}/libwasmloop.rlib", OUT / f"{name}_host.rs")
+        run(*words, OUT / f"{name}_host.rs")
         same(f"the host of {name} in Rust", run(OUT / f"{name}_host", OUT / f"{name}.wasm").split("\n")[0], told)
     print("bind: hosts in C and Rust get the same")
 

@@ -17,7 +17,7 @@ python3 "$top/capi/test/desk_test.py" "$program" "$out"
 if [ ! -f /usr/include/uv.h ] || ! command -v cc > /dev/null; then echo 'skipped: the recorder for C: cc or libuv1-dev is missing'; exit 0; fi
 sed -n 's/^REAL(\([a-z_]*\),.*$/--wrap=wasmloop_\1/p' "$top/capi/record_wrap.c" > "$out/record_wrap.opts"
 cc -std=c11 -D_GNU_SOURCE -Wall -Wextra -Werror -g -O1 -fsanitize=address,undefined -fno-sanitize-recover -I"$top/capi/include" -o "$out/recorded" \
-    "$top/capi/hosts/host_uv.c" "$top/capi/record_wrap.c" "$top/dist/libwasmloop.a" -luv -lpthread "-Wl,@$out/record_wrap.opts"
+    "$top/hosts/c/host_uv.c" "$top/capi/record_wrap.c" "$top/dist/libwasmloop.a" -luv -lpthread "-Wl,@$out/record_wrap.opts"
 replayed=0
 for guest in "$top"/examples/*.wasm "$out/racy.wasm"; do
     [ -f "$guest" ] || continue

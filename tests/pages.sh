@@ -14,7 +14,7 @@ top=$(cd "$(dirname "$0")/.." && pwd)
 program=$(readlink -f "$1")
 room=$(mktemp -d)
 trap 'rm -rf "$room"' EXIT
-cp -r "$top/examples" "$top/capi" "$top/dist" "$top/install.sh" "$top/README.md" "$room"
+cp -r "$top/examples" "$top/capi" "$top/hosts" "$top/dist" "$top/install.sh" "$top/README.md" "$room"
 ln -s "$top/crates" "$top/crates.txt" "$room"
 ln -s "$program" "$room/wasmloop"
 cd "$room" || exit 1

@@ -5,7 +5,7 @@
 #
 # What needs a program or a package that isn't there is left out, and said. Ends with 1 where anything differs or fails.
 here=$(cd "$(dirname "$0")" && pwd) top=$(cd "$(dirname "$0")/../.." && pwd)
-hosts=$top/capi/hosts python=$top/capi/python rust=$top/capi/rust
+hosts=$top/hosts python=$top/capi/python rust=$top/capi/rust
 mkdir -p "$2" || exit 1
 program=$(readlink -f "$1") out=$(cd "$2" && pwd)
 examples=$top/examples
@@ -176,7 +176,7 @@ try cc $c -o "$out/first" "$out/first.c" "$lib/libwasmloop.a"
 # a loop by itself, in C; in Python below
 counts='3 2 1 0 0'
 # shellcheck disable=SC2086
-try cc $c -o "$out/first_loop" "$hosts/first_loop.c" "$lib/libwasmloop.a"
+try cc $c -o "$out/first_loop" "$hosts/c/first_loop.c" "$lib/libwasmloop.a"
 [ "$("$out/first_loop" "$examples/countdown.wasm" | xargs)" = "$counts" ] || fail "first_loop.c"
 
 if command -v pkg-config > /dev/null; then
@@ -219,7 +219,7 @@ else left_out "a cancel of work that runs: there is no clang with wasm-ld"; fi
 
 if [ -f /usr/include/uv.h ]; then
     # shellcheck disable=SC2086
-    try cc $c $checked -o "$out/host_uv" "$hosts/host_uv.c" "$lib/libwasmloop.a" -luv
+    try cc $c $checked -o "$out/host_uv" "$hosts/c/host_uv.c" "$lib/libwasmloop.a" -luv
     compare host_uv '--loops 2 --workers 1' "VIRTUAL=1 '$out/host_uv' 2 < \"\$1\"" exactly
     compare 'host_uv in real time' '--loops 2 --workers 1' "'$out/host_uv' 2 < \"\$1\"" counted
     prints host_uv cancels "$cancelled" "'$out/host_uv' 1 < \"\$1\""
@@ -228,12 +228,12 @@ else left_out "the libuv host: libuv1-dev is not there"; fi
 
 if command -v python3 > /dev/null; then
     export WASMLOOP_LIBRARY="$lib/libwasmloop.so.0" PYTHONPATH="$python" PYTHONDONTWRITEBYTECODE=1
-    compare host.py '--loops 2 --workers 1' "python3 '$hosts/host.py' \"\$1\" 2" exactly
-    compare host_asyncio.py '--loops 1 --workers 1' "python3 '$hosts/host_asyncio.py' \"\$1\" --virtual" exactly
-    compare 'host_asyncio.py in real time' '--loops 1 --workers 1' "python3 '$hosts/host_asyncio.py' \"\$1\"" counted
-    prints host.py cancels "$cancelled" "python3 '$hosts/host.py' \"\$1\" 1"
-    prints host_asyncio.py cancels "$cancelled" "python3 '$hosts/host_asyncio.py' \"\$1\""
-    [ "$(python3 "$hosts/first_loop.py" "$examples/countdown.wasm" | tr -d '[]' | xargs)" = "$counts" ] || fail "first_loop.py"
+    compare host.py '--loops 2 --workers 1' "python3 '$hosts/python/host.py' \"\$1\" 2" exactly
+    compare host_asyncio.py '--loops 1 --workers 1' "python3 '$hosts/python/host_asyncio.py' \"\$1\" --virtual" exactly
+    compare 'host_asyncio.py in real time' '--loops 1 --workers 1' "python3 '$hosts/python/host_asyncio.py' \"\$1\"" counted
+    prints host.py cancels "$cancelled" "python3 '$hosts/python/host.py' \"\$1\" 1"
+    prints host_asyncio.py cancels "$cancelled" "python3 '$hosts/python/host_asyncio.py' \"\$1\""
+    [ "$(python3 "$hosts/python/first_loop.py" "$examples/countdown.wasm" | tr -d '[]' | xargs)" = "$counts" ] || fail "first_loop.py"
     try python3 "$here/calls_test.py" "$examples" "$program"
     tail -1 "$out/said"
     if python3 -m pip --version > /dev/null 2>&1; then
@@ -244,7 +244,7 @@ if command -v python3 > /dev/null; then
     else left_out "the wheel: python3 has no pip"; fi
     if python3 -c 'import distributed' 2> /dev/null; then
         seq 300000 > "$out/lines"
-        try timeout 200 python3 "$hosts/spread.py" "$examples/sha256.wasm" "$out/lines" --kill 4
+        try timeout 200 python3 "$hosts/python/spread.py" "$examples/sha256.wasm" "$out/lines" --kill 4
         tail -1 "$out/said"
     else left_out "the blocks spread by Dask: python3-distributed is not there"; fi
 else left_out "the Python hosts: there is no python3"; fi

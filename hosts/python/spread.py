@@ -5,8 +5,8 @@ find it; through the scheduler go numbers and replies alone. Printed are a diges
 each number of processes. A request is a function of the module, the operation and the bytes alone, so the scheduler may run one again
 whose process ended. Ends with 1 where replies differ, or where no task was left for the killed process.
 
-    python3 capi/hosts/spread.py examples/sha256.wasm FILE --kill        1, 2 and 4 processes, then one of them killed half way
-    python3 capi/hosts/spread.py examples/sha256.wasm FILE --rounds 5    in turns, the least times of five
+    python3 hosts/python/spread.py examples/sha256.wasm FILE --kill        1, 2 and 4 processes, then one of them killed half way
+    python3 hosts/python/spread.py examples/sha256.wasm FILE --rounds 5    in turns, the least times of five
 
 It needs Debian's python3-distributed. To use machines of your own, give Client the address of your scheduler in place of LocalCluster.
 With a file of 16 MB (256 requests of 9 million units) 1, 2 and 4 processes ran at 0.94, 1.64 and 3.60 times the speed of this process

@@ -1,0 +1,7 @@
+#!/bin/sh
+# Makes out/wasmloop.so, which Redis 7 loads.
+set -eu
+cd "$(dirname "$0")"
+mkdir -p out
+# shellcheck disable=SC2086
+${CC:-cc} -O2 -Wall -Wextra ${CFLAGS:-} -shared -fPIC -o out/wasmloop.so wasmloop_redis.c -I ../../capi/include ../../dist/libwasmloop.a -Wl,--exclude-libs,ALL

@@ -1,0 +1,126 @@
+'use strict';
+// Classes of the addon's calls. Numbers of guests: i32 as number, i64 as bigint.
+const native = require('./out/wasmloop.node');
+const { performance } = require('node:perf_hooks');
+const { isMainThread } = require('node:worker_threads');
+if (isMainThread) process.once('exit', native.quit);     // else the process waits for what runs on the pool
+const ENDINGS = ['return', 'trap', 'depth', 'spent'], OUTCOMES = ['not run', 'done', 'trap', 'depth', 'spent', 'memory'];
+
+class Stopped extends Error {
+  constructor(why, told) { super(`${why}${told.where ? ', ' + told.where : ''}`); this.name = 'Stopped'; this.ending = why; this.where = told.where; this.used = told.used; }
+}
+
+async function pooled(module, it, call, signal) {          // runs on libuv's pool, in slices; an AbortSignal ends it between two
+  if (signal?.aborted) throw signal.reason;
+  const abort = () => native.stop(it);
+  signal?.addEventListener('abort', abort, { once: true });
+  try {
+    const told = await native.pool(module, it, call);
+    if (!told.over) throw signal.reason;
+    return told;
+  } finally { signal?.removeEventListener('abort', abort); }
+}
+
+class Module {
+  #handle;
+  constructor(bytes) { this.#handle = native.load(bytes); }
+  get handle() { return this.#handle; }
+  type(name) { return native.type(this.#handle, name); }
+  instance(limits) { return new Instance(this, limits); }
+  loop(options) { return new Loop(this, options); }
+  async work(operation, bytes = new Uint8Array(0), { fuel = 1e6, depth = 64, signal } = {}) {
+    const told = await pooled(this.#handle, native.job(this.#handle, operation, bytes, fuel, depth), 0, signal);
+    if (told.outcome !== 1) throw new Stopped(OUTCOMES[told.outcome], told);
+    return { value: told.value, bytes: told.reply, used: told.used };
+  }
+}
+
+class Instance {
+  #module; #handle; #words; #types = new Map();
+  #closed = false;
+  constructor(module, { fuel = 1e6, depth = 64 } = {}) { this.#module = module; this.#handle = native.instance(module.handle, fuel, depth); this.#words = native.words(this.#handle); this.fuel = fuel; this.depth = depth; }
+  #open() { if (this.#closed) throw new Error('the instance stands in a call that was aborted: make another'); }
+  #of(name, args) {
+    const type = this.#type(name);
+    if (args.length !== type.params.length) throw new TypeError(`${name} takes ${type.params.length} arguments`);
+    return [type, args.map((x, i) => type.params[i] === 32 ? (x >>> 0) : BigInt.asUintN(64, BigInt(x)))];
+  }
+  #result(type, told) {
+    if (told.ending) throw new Stopped(ENDINGS[told.ending], told);
+    const all = told.results.map((x, i) => type.results[i] === 32 ? Number(BigInt.asIntN(32, x)) : BigInt.asIntN(64, x));
+    return all.length > 1 ? all : all[0];
+  }
+  #type(name) {
+    let type = this.#types.get(name);
+    if (type === undefined) { type = this.#module.type(name); this.#types.set(name, type); }
+    if (!type) throw new TypeError(`no function ${name}`);
+    return type;
+  }
+  call(name, ...args) {                                    // no object is made on the way
+    this.#open();
+    const type = this.#type(name), n = args.length;
+    if (n !== type.params.length) throw new TypeError(`${name} takes ${type.params.length} arguments`);
+    for (let i = 0; i < n; i++) this.#words[i] = type.params[i] === 32 ? BigInt(args[i] >>> 0) : BigInt(args[i]);
+    if (native.callAt(this.#handle, type.at, n)) return this.#result(type, native.last(this.#module.handle, this.#handle));
+    if (type.results.length === 0) return undefined;
+    if (type.results.length > 1) return this.#result(type, native.last(this.#module.handle, this.#handle));
+    return type.results[0] === 32 ? Number(BigInt.asIntN(32, this.#words[256])) : BigInt.asIntN(64, this.#words[256]);
+  }
+  async callAsync(name, args = [], { signal } = {}) {      // an abort closes the instance, which stands in the call then
+    this.#open();
+    signal?.throwIfAborted();
+    const [type, list] = this.#of(name, args);
+    native.begin(this.#handle, name, list, this.fuel, this.depth);
+    const told = await pooled(this.#module.handle, this.#handle, 1, signal).catch((error) => { this.#closed = true; throw error; });
+    return this.#result(type, told);
+  }
+  read(at, length) { return native.read(this.#handle, at, length); }
+  write(at, bytes) { native.write(this.#handle, at, bytes); }
+}
+
+class Loop {                                               // lives on node's own loop until it is over, or closed
+  #closed = false; #running_jobs = new Set();
+  #module; #handle; #timer; #start = performance.now(); #sent = false; #jobs = 0; #running = false; #now = false;
+  constructor(module, { fuel = 1e6, workFuel = 1e6, depth = 64, onEmit = () => {}, units = 100000 } = {}) {
+    this.#module = module; this.#handle = native.loop(module.handle, fuel, workFuel, 0, depth); this.onEmit = onEmit; this.units = units;
+    this.done = new Promise((resolve, reject) => { this.resolve = resolve; this.reject = reject; });
+    this.#soon();
+  }
+  #soon() { if (!this.#now) { this.#now = true; clearTimeout(this.#timer); setImmediate(() => this.#turn()); } }
+  #pending = [];                                           // replies and sends wait while a callback is paused
+  #later(f) { this.#pending.push(f); this.#sent = true; this.#soon(); }
+  send(number) { this.#later(() => native.send(this.#handle, number)); }
+  request(operation, bytes) { return new Promise((resolve) => this.#later(() => resolve(native.request(this.#handle, operation, bytes)))); }
+  close(why = new Error('the loop is closed')) {           // `done` is rejected, unless it is over
+    this.#closed = true;
+    clearTimeout(this.#timer);
+    for (const job of this.#running_jobs) native.stop(job);
+    this.reject(why);
+  }
+  async #run(job) {
+    this.#jobs++;
+    this.#running_jobs.add(job);
+    const told = await native.pool(this.#module.handle, job, 0);
+    this.#running_jobs.delete(job);
+    this.#jobs--;
+    if (told.over) this.#later(() => native.accept(this.#handle, job));
+  }
+  #turn() {
+    this.#now = false;
+    if (!this.#closed) try { this.#step(); } catch (error) { this.close(error); }
+  }
+  #step() {
+    if (!this.#running) for (const f of this.#pending.splice(0)) f();
+    const told = native.turnFor(this.#module.handle, this.#handle, Math.floor(performance.now() - this.#start), this.units);
+    this.#running = !told.over;
+    if (!told.over) return this.#soon();
+    if (told.emits) this.onEmit(told.emits);
+    if (told.what === 5) return this.reject(new Stopped(ENDINGS[told.ending] || 'failed', told));
+    for (let job; (job = native.nextJob(this.#handle));) this.#run(job).catch(this.reject);
+    if (told.what === 4 && !this.#jobs && !this.#pending.length) return this.resolve();
+    if (told.what !== 1 || told.wait === 0 || this.#pending.length) return this.#soon();
+    if (told.wait > 0) this.#timer = setTimeout(() => this.#soon(), told.wait);
+  }
+}
+
+module.exports = { Module, Instance, Loop, Stopped };

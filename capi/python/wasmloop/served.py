@@ -1,0 +1,144 @@
+"""A guest's loop as a long-lived task of asyncio: other tasks send to it and request of it, also while it sleeps.
+
+    async with Served(module, fuel=1_000_000) as served:
+        served.send(0)                                  # to the guest's async 0
+        number = await served.request(7, b"bytes")      # uv_work, then uv_after_work
+        async for value in served.emits():              # until the loop is over
+            ..
+
+The loop runs in slices between other tasks, its work requests on threads. `emits` raises Failed if a callback has failed, with where. Leaving the
+block ends all: requests that wait get Closed.
+"""
+
+import asyncio
+import threading
+import time
+
+from . import DEPTH, ENTERED, FOREVER, OVER, RAN, TRAP, Loop
+
+UNITS, WORK_UNITS = 3_000, 100_000                      # of a slice of a callback, and of a work request
+
+
+class Failed(Exception):
+    """A callback of the guest did not return."""
+
+
+class Closed(Exception):
+    """The loop is over, has failed, or its block was left."""
+
+
+class Served:
+    """A loop of a module. The words are Loop's."""
+
+    def __init__(self, module, **limits):
+        self._module, self._limits, self._closed = module, limits, False
+
+    async def __aenter__(self):
+        self._loop, self._wake, self._later = Loop(self._module, **self._limits), asyncio.Event(), []
+        self._out, self._jobs, self._began, self._stop = asyncio.Queue(), set(), time.monotonic(), threading.Event()
+        self._task = asyncio.create_task(self._serve())
+        return self
+
+    async def __aexit__(self, *_):
+        self._task.cancel()
+        await asyncio.gather(self._task, return_exceptions=True)
+        self._loop.close()
+
+    def send(self, number):
+        """Sends to the guest's async of this number, counted from 0."""
+        if not 0 <= number < 16:
+            raise ValueError(f"the number is {number}; an async's is 0 to 15")
+        self._soon(lambda: self._loop.send(number))
+
+    async def request(self, op, data=b""):
+        """Submits a work request. Returns its number, above 0, or an error of queue_work."""
+        answer = asyncio.get_running_loop().create_future()
+
+        def act():
+            if answer.done():
+                return
+            try:
+                answer.set_result(self._loop.request(op, data))
+            except Exception as error:                  # a word that the loop does not take is the caller's error
+                answer.set_exception(error)
+
+        self._soon(act, answer)
+        return await answer
+
+    async def emits(self):
+        """The values that the guest emits, for one task."""
+        while (value := await self._out.get()) is not None:
+            yield value
+        self._out.put_nowait(None)
+        if self._task.done() and not self._task.cancelled():
+            self._task.result()
+
+    def _soon(self, act, answer=None):                  # kept until no callback is paused
+        if self._closed:
+            raise Closed("the loop is over")
+        self._later.append((act, answer))
+        self._wake.set()
+
+    def _compute(self, job):                            # on a thread
+        while not self._stop.is_set() and not job.run_for(WORK_UNITS):
+            pass
+
+    async def _run(self, job):
+        await asyncio.to_thread(self._compute, job)
+        if not self._stop.is_set():
+            self._later.append((lambda: self._loop.accept(job), None))
+            self._wake.set()
+
+    async def _turn(self):
+        """Takes turns until the loop enters its timers phase, is over or has failed."""
+        while True:
+            turned = self._loop.turn_for(UNITS)
+            await asyncio.sleep(0)
+            if turned is None:
+                continue
+            did = turned.did
+            if did.what == RAN:
+                for value in self._loop.emits():
+                    self._out.put_nowait(value)
+            if did.what != RAN or did.ending:
+                return did.what
+
+    async def _sleep(self, wait):
+        try:
+            await asyncio.wait_for(self._wake.wait(), None if wait == FOREVER else min(wait, 2**30) / 1000)
+        except asyncio.TimeoutError:
+            pass
+
+    def _failure(self):
+        did, places = self._loop.turned.did, self._loop.stop_places()
+        how = {TRAP: f"trap {did.trap}", DEPTH: "call stack exhausted"}.get(did.ending, "out of fuel")
+        where = f", in function {places[0].function}, instruction {places[0].instruction} at byte {places[0].byte}" if places else ""
+        return Failed(f"a callback did not return: {how}, after {did.used} units{where}")
+
+    async def _serve(self):
+        try:
+            while True:
+                self._wake.clear()
+                acts, self._later = self._later, []
+                for act, _ in acts:
+                    act()
+                self._loop.clock(int((time.monotonic() - self._began) * 1000))
+                what = await self._turn()
+                while job := self._loop.next_job():
+                    task = asyncio.create_task(self._run(job))
+                    self._jobs.add(task)
+                    task.add_done_callback(self._jobs.discard)
+                if what == OVER:
+                    return
+                if what != ENTERED:
+                    raise self._failure()
+                if self._loop.turned.wait and not self._later:
+                    await self._sleep(self._loop.turned.wait)
+        finally:
+            self._closed = True
+            self._stop.set()
+            for _, answer in self._later:
+                if answer and not answer.done():
+                    answer.set_exception(Closed("the loop is over"))
+            self._out.put_nowait(None)
+            await asyncio.gather(*self._jobs, return_exceptions=True)

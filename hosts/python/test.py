@@ -1,0 +1,116 @@
+"""Tests of wasmloop.served: test.py GUESTS EXAMPLES"""
+import asyncio
+import sys
+import time
+
+from wasmloop import Error, Module
+from wasmloop.served import Closed, Failed, Served
+
+guests, examples = sys.argv[1:]
+
+
+def read(path):
+    with open(path, "rb") as file:
+        return Module(file.read())
+
+
+echo = read(f"{guests}/echo.wasm")
+spin = {"fuel": 10**12, "work_fuel": 10**12}
+
+
+async def sends_and_requests():
+    async with Served(echo) as served:
+        got = served.emits()
+        await asyncio.sleep(0.05)                       # it sleeps for ever now
+        served.send(0)
+        assert await got.__anext__() == 100
+        numbers = [await served.request(0, b"x" * k) for k in range(5)]
+        assert sorted([await got.__anext__() for _ in numbers]) == [number << 32 | k for k, number in enumerate(numbers)]
+
+
+async def wrong_words():
+    async with Served(echo) as served:
+        for number in (-1, 16):
+            try:
+                served.send(number)
+                raise AssertionError(number)
+            except ValueError:
+                pass
+        assert await served.request(0, b"x" * 65537) == -22
+        for op, data in ((2**40, b""), (0, "text")):
+            try:
+                await served.request(op, data)
+                raise AssertionError(op)
+            except (TypeError, ValueError, Error):
+                pass
+        assert await served.request(0, b"") > 0
+
+
+async def failing():
+    async with Served(echo) as served:
+        served.send(1)
+        try:
+            async for _ in served.emits():
+                raise AssertionError
+            raise AssertionError("it did not fail")
+        except Failed as error:
+            assert "trap 1" in str(error) and "in function" in str(error), error
+        try:
+            await served.request(0)
+            raise AssertionError
+        except Closed:
+            pass
+
+
+async def endless():
+    began, beats = time.monotonic(), 0
+    async with Served(echo, **spin) as served:
+        assert await served.request(1) > 0
+        served.send(2)
+        for _ in range(20):
+            await asyncio.sleep(0.001)
+            beats += 1
+        waits = asyncio.create_task(served.request(0, b"late"))
+        await asyncio.sleep(0.01)
+    assert beats == 20 and time.monotonic() - began < 3
+    try:
+        await waits
+        raise AssertionError
+    except Closed:
+        pass
+
+
+async def cancelled():
+    async with Served(echo) as served:
+        for _ in range(50):
+            task = asyncio.create_task(served.request(0, b"x"))
+            await asyncio.sleep(0)
+            task.cancel()
+        assert await asyncio.wait_for(served.request(0, b"abc"), 5) > 0
+
+
+async def ended():
+    for name in ("ticker", "digest", "chatter"):
+        async with Served(read(f"{examples}/{name}.wasm"), fuel=10**8, work_fuel=10**8) as served:
+            assert [value async for value in served.emits()], name
+
+
+async def many():
+    async def one(k):
+        async with Served(echo) as served:
+            got = served.emits()
+            served.send(0)
+            await served.request(0, b"y" * k)
+            return {await got.__anext__() % 2**32, await got.__anext__() % 2**32}
+    assert await asyncio.gather(*(one(k) for k in range(60))) == [{100, k} for k in range(60)]
+
+
+passed = failed = 0
+for test in (sends_and_requests, wrong_words, failing, endless, cancelled, ended, many):
+    try:
+        asyncio.run(asyncio.wait_for(test(), 30))
+        passed += 1
+    except BaseException as error:                      # a failed test is told, and the next is run
+        failed += 1
+        print(f"FAILED: {test.__name__}: {error!r}")
+print(passed, failed)

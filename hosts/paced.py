@@ -1,0 +1,64 @@
+"""A short request each 6 ms beside two clients of a long one: unlike a closed loop, it meets stalls as often as they are there.
+
+usage: paced.py http HOST:PORT PATH             beside POSTs of PATH, or nothing (-); the short one is GET /static
+       paced.py redis SOCKET wl | lua | -       beside WL.CALL rules 3, or the same in Lua; the short one is PING
+"""
+import http.client
+import socket
+import sys
+import threading
+import time
+
+kind, where, what = sys.argv[1:]
+LUA = b"local n = 0 for i = 0, 1999999 do n = (n * 31 + i) % 4294967296 end return n"
+WORDS = {"wl": (b"wl.call", b"rules", b"3", b"x"), "lua": (b"eval", LUA, b"0")}
+
+
+def http_client():
+    connection = http.client.HTTPConnection(where)
+
+    def ask(path, body=None):
+        connection.request("POST" if body else "GET", path, body)
+        answer = connection.getresponse()
+        answer.read()
+        return answer.status
+    return (lambda: ask(what, b"x")), (lambda: ask("/static"))
+
+
+def redis_client():
+    server = socket.socket(socket.AF_UNIX)
+    server.connect(where)
+
+    def ask(*words):
+        server.sendall(b"*%d\r\n" % len(words) + b"".join(b"$%d\r\n%s\r\n" % (len(w), w) for w in words))
+        return server.recv(65536)[:1]
+    return (lambda: ask(*WORDS[what])), (lambda: ask(b"ping"))
+
+
+client = http_client if kind == "http" else redis_client
+ended, done, took = [], [], []
+
+
+def run():
+    long, _ = client()
+    while not ended:
+        done.append(long())
+
+
+threads = [threading.Thread(target=run) for _ in range(0 if what == "-" else 2)]
+for thread in threads:
+    thread.start()
+time.sleep(0.1)
+_, short = client()
+until = time.perf_counter() + 1.2                       # a busy machine: no longer at a time
+while time.perf_counter() < until:
+    began = time.perf_counter()
+    short()
+    took.append((time.perf_counter() - began) * 1000)
+    time.sleep(max(0, 0.006 - took[-1] / 1000))
+ended.append(1)
+for thread in threads:
+    thread.join()
+took.sort()
+print(f"beside {what}: median {took[len(took) // 2]:.2f} ms, 95 % {took[len(took) * 95 // 100]:.2f}, worst {took[-1]:.2f}, of {len(took)};"
+      f" {len(done)} long requests, {set(done)}")

@@ -5,7 +5,8 @@ use Rattle.std.proofs.Common.{slice_index_or, rules}
 use Rattle.std.proofs.lemmas.Grind.{take_at_read}
 use Rattle.std.proofs.lemmas.List.{take_all, append_assoc}
 use Rattle.world.specs.declared.fault.WorldFault.{WorldFault}
-use Rattle.world.specs.Making.{MayFault, Stops}
+use Rattle.world.specs.Making.{Faults, MayFault, NamesNothing, Stops}
+use Rattle.world.specs.declared.fault.WorldFault.TheVariants.{NoSuch, Memory}
 
 -- more steps from where some ended
 pub runs_join : (w mid w' : World) (steps more : List Step) (told lines : List LogEntry) → WorldRun w steps told mid → WorldRun mid more lines w' → WorldRun w (steps ++ more) (told ++ lines) w'
@@ -33,7 +34,7 @@ pub has_run_all : (w w' : World) (steps : List Step) (i : ℕ) (old new : List L
 has_run_all w w' steps i old new past run = rw (take_all i steps past) at run
 
 pub has_stopped : (w mid w' : World) (steps : List Step) (i : ℕ) (d : Step) (old new new' : List LogEntry) (fault : WorldFault) → i < length steps → HasRun w (take i steps) old mid new
-    → MayFault mid (slice_index_or steps i d) fault → w' ≡ mid → new' ≡ new → (told : List LogEntry) × (new' ≡ old ++ told) × Stops w steps fault told w'
+    → Faults mid (slice_index_or steps i d) fault → w' ≡ mid → new' ≡ new → (told : List LogEntry) × (new' ≡ old ++ told) × Stops w steps fault told w'
 has_stopped w mid w' steps i d old new new' fault below (told, written, run) why same kept = (
   told,
   kept ∙ written,
@@ -45,3 +46,8 @@ has_stopped w mid w' steps i d old new new' fault below (told, written, run) why
     why = rw same why;
   },
 )
+
+-- a step that names nothing that is not there faults for memory alone
+pub faults : (w : World) (s : Step) (fault : WorldFault) → (NamesNothing w s → ⊥) → MayFault w s fault → Faults w s fault
+faults w s NoSuch there may = may
+faults w s Memory there may = there

@@ -94,10 +94,15 @@ abbrev pub MayFault : World → Step → WorldFault → Type 0
 MayFault w s NoSuch = NamesNothing w s
 MayFault w s Memory = Unit {0}
 
+-- and it comes there
+abbrev pub Faults : World → Step → WorldFault → Type 0
+Faults w s NoSuch = NamesNothing w s
+Faults w s Memory = NamesNothing w s → ⊥
+
 -- the steps before a fault logged this, and left this world
 pub record Stops (w : World) (steps : List Step) (fault : WorldFault) (told : List LogEntry) (w' : World) : Type 0 where
   pub done : ℕ
   pub next : Step
   pub at : slice_get steps done ≡ Some next
   pub ran : WorldRun w (take done steps) told w'
-  pub why : MayFault w' next fault
+  pub why : Faults w' next fault

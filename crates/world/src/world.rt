@@ -1,8 +1,8 @@
 // All loops and workers, in one thread.
 
-ghost use Rattle.std.specs.Prelude.{◌≡◌, ◌++◌, ◌∷◌, [], ◌≤◌, ◌<◌, All, IfOk, IfErr, IfSome, OnOk, OnErr, length, map, replicate, take};
+ghost use Rattle.std.specs.Prelude.{◌≡◌, ◌++◌, ◌∷◌, [], ◌≤◌, ◌<◌, true, false, All, IfOk, IfErr, IfSome, OnOk, OnErr, length, map, replicate, take};
 ghost use Rattle.limits.specs.declared.TheConstants.{MAX_LOOPS, MAX_WORKERS};
-ghost use Rattle.world.specs.Making.{setting_from, settings_from, answers_of, HasDepth, MayFault, Stops};
+ghost use Rattle.world.specs.Making.{setting_from, settings_from, answers_of, HasDepth, Faults, MayFault, NamesNothing, Stops};
 ghost use Rattle.world.specs.Stopping.{StopsIn};
 ghost use Rattle.world.specs.Undone.{IsUndone};
 ghost use Rattle.world.specs.World.{opening_world, opening_loop, WorldStep, WorldRun, entry_told, job_of, TellsEnd, StepsLoop, PostsJob, WithWorker, WorkerTakesJob, StartsJob};
@@ -266,14 +266,37 @@ impl World {
 
     fn step(&mut self, step: Step, log: &mut Log) -> Result<(), WorldFault>
         ensures ran { OnOk result ((entry : _) × (log.new.entries ≡ log.old.entries ++ entry ∷ []) × WorldStep self.old step entry self.new) }
-        ensures fault { IfErr result (λ fault. MayFault self.old step fault) }
+        ensures fault { IfErr result (λ fault. Faults self.old step fault) }
         ensures kept { OnErr result (self.new ≡ self.old) }
         ensures log { OnErr result (log.new.entries ≡ log.old.entries) }
     {
+        if !self.has(step) {
+            return Err(WorldFault::NoSuch);
+        }
         log.reserve()?;
         let entry = self.take_step(step)?;
         log.push_reserved(entry);
         Ok(())
+    }
+
+    /// Whether all that the step names is there.
+    fn has(&self, step: Step) -> bool
+        ensures none { result ≡ false → NamesNothing self.now step }
+        ensures there { result ≡ true → NamesNothing self.now step → ⊥ }
+    {
+        match step {
+            Step::Loop(loop_no) => (loop_no as usize) < self.loops.len(),
+            Step::Post(loop_no) => (loop_no as usize) < self.loops.len(),
+            Step::Take(worker) => (worker as usize) < self.workers.len(),
+            Step::Start(worker) => (worker as usize) < self.workers.len(),
+            Step::Finish(worker) => (worker as usize) < self.workers.len(),
+            Step::Collect(loop_no) => (loop_no as usize) < self.loops.len(),
+            Step::Send(loop_no, async_no) => {
+                (loop_no as usize) < self.loops.len() && (async_no as usize) < MAX_ASYNCS
+            }
+            Step::Cancel(loop_no, _) => (loop_no as usize) < self.loops.len(),
+            Step::Clock(loop_no, _) => (loop_no as usize) < self.loops.len(),
+        }
     }
 
     fn take_step(&mut self, step: Step) -> Result<LogEntry, WorldFault>

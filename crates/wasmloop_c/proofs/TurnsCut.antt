@@ -10,7 +10,7 @@ use Rattle.phases.specs.declared.slices.StepSlice.TheVariants as slice
 use Rattle.wasmloop_c.specs.Calls.{core_in}
 use Rattle.wasmloop_c.specs.Numbers.{did_of}
 use Rattle.wasmloop_c.specs.StepSlices.{LeftByStep, RunsStep, step_held}
-use Rattle.wasmloop_c.specs.TurnSlices.{LoopIsAt, SliceEnds, SliceGoesOn, StepIsUnderway, TakesSlices, TurnsStage, WaitsFor, fuel_in, last_did, refusal}
+use Rattle.wasmloop_c.specs.TurnSlices.{LoopIsAt, SliceEnds, SliceGoesOn, StepIsUnderway, TakesSlices, TurnsStage, WaitsFor, fuel_in, last_did, IsRefusal}
 use Rattle.wasmloop_c.specs.declared.step_slices.SliceEnd.TheVariants as end
 use Rattle.wasmloop_c.specs.declared.thing.LoopStage.TheVariants as stage
 use Rattle.wasmloop_c.specs.declared.turn_slices.TurnLeft.{TurnLeft}
@@ -119,7 +119,7 @@ no_end : (it : StepSlice Desk) (left : LoopStage) (status : ℕ) → LeftByStep 
 no_end (slice.Over d told) left status (is, same) = cc
 no_end (slice.Paused t) left status (is, same) = cc
 
-pub refused : (from : LoopStage) (units : ℕ) (left : LoopStage) (status : ℕ) → RunsStep from units left (end.Refused status) → (left ≡ from) × (status ≡ refusal from)
+pub refused : (from : LoopStage) (units : ℕ) (left : LoopStage) (status : ℕ) → RunsStep from units left (end.Refused status) → (left ≡ from) × IsRefusal from status
 refused (stage.Resting held) units left status (inl (first, it, begins, goes, lefts)) = absurd (no_end it left status lefts)
 refused (stage.Resting held) units left status (inr (same, why)) = (same, cc)
 refused (stage.Stepping held) units left status (it, goes, lefts) = absurd (no_end it left status lefts)
@@ -312,9 +312,9 @@ pub may_go_on : (did : Did) (most ran : ℕ) → ran < most → ends_turn most r
 may_go_on did most ran less goes_on = one_more_may (did.what == RAN) _ _ _ most ran less goes_on
 
 -- What a call leaves of a turn, as C is told it.
-refusal_is : (from : LoopStage) (status : ℕ) → status ≡ refusal from → status ≡ OK → ⊥
+refusal_is : (from : LoopStage) (status : ℕ) → IsRefusal from status → status ≡ OK → ⊥
 refusal_is (stage.Resting held) status is ok = absurd cc
-refusal_is (stage.Stepping held) status is ok = absurd cc
+refusal_is (stage.Stepping held) status is ok = absurd is
 refusal_is stage.Gone status is ok = absurd cc
 
 pub turns : (from : LoopStage) (most units was : ℕ) (old told : Turned) (it : TurnLeft) → it.status ≡ OK → TakesSlices from most units old.did told.did it

@@ -61,10 +61,11 @@ pub record SliceGoesOn (c : Core Desk) (from units most : ℕ) (old did : Did) (
   pub within : fuel_in before + used_in left ≤ from + units
   pub some : (before ≡ [] → ⊥) ⊎ (from < used_in left)
 
--- why nothing is done
-abbrev pub refusal : LoopStage → ℕ
-refusal (stage.Resting held) = MEMORY
-refusal _ = KIND
+-- why nothing is done: no memory was found for a step that has not begun, or there is no loop. A step that is under way is never refused.
+abbrev pub IsRefusal : LoopStage → (status : ℕ) → Type 0
+IsRefusal (stage.Resting held) status = status ≡ MEMORY
+IsRefusal (stage.Stepping held) status = ⊥
+IsRefusal stage.Gone status = status ≡ KIND
 
 -- A step of a turn is over: from where the loop stood it was taken whole, and what it used in this call is no longer left.
 pub record StepIsTaken (from : Turning) (did : Did) (to : Turning) : Type 0 where
@@ -87,14 +88,14 @@ TakesSlice from most old did to flow.Over = StepIsTaken from did to × (ends_tur
 TakesSlice from most old did to flow.Paused =
     (StepIsTaken from did to × (ends_turn most from.ran did ≡ false))
     ⊎ (StepIsUnderway from to × (did ≡ old))
-TakesSlice from most old did to (flow.Refused status) = (to ≡ from) × (did ≡ old) × (status ≡ refusal from.stage)
+TakesSlice from most old did to (flow.Refused status) = (to ≡ from) × (did ≡ old) × IsRefusal from.stage status
 
 -- what a slice leaves of a turn from a loop's stage, and of what the step before it did
 abbrev pub TakesSlices : LoopStage → (most units : ℕ) → (old did : Did) → TurnLeft → Type 0
 TakesSlices from most units old did it =
     ((it.status ≡ OK) × (it.over ≡ 1) × ((c : Core Desk) → LoopIsAt c from → SliceEnds c (used_in from) units most did it.ran it.stage))
     ⊎ ((it.status ≡ OK) × (it.over ≡ 0) × ((c : Core Desk) → LoopIsAt c from → SliceGoesOn c (used_in from) units most old did it.ran it.stage))
-    ⊎ ((it.status ≡ refusal from) × (it.stage ≡ from) × (did ≡ old))
+    ⊎ (IsRefusal from it.status × (it.stage ≡ from) × (did ≡ old))
 
 -- how long there is nothing to do: not at all while the turn isn't over
 abbrev pub WaitsFor : TurnLeft → Did → (callbacks wait : ℕ) → Type 0
@@ -125,7 +126,7 @@ abbrev pub TurnsStage : (old new : LoopStage) → (most units was over : ℕ) �
 TurnsStage from new most units was over before told status =
     ((status ≡ OK) × (over ≡ 1) × ((c : Core Desk) → LoopIsAt c from → TurnEnds c (used_in from) units most before told new))
     ⊎ ((status ≡ OK) × (over ≡ 0) × ((c : Core Desk) → LoopIsAt c from → TurnGoesOn c (used_in from) units most before told new))
-    ⊎ ((status ≡ refusal from) × (new ≡ from) × (over ≡ was) × (told ≡ before))
+    ⊎ (IsRefusal from status × (new ≡ from) × (over ≡ was) × (told ≡ before))
 
 abbrev pub TurnsFor : (old new : Thing) → (most units was over : ℕ) → (before told : Turned) → (status : ℕ) → Type 0
 TurnsFor old new most units was over before told status =

@@ -1,5 +1,5 @@
 use Rattle.wasmloop_c.proofs.Names.{ap, arith, inl, inr, LoopStage, refl, subst, Turning, ◌-◌, ◌^◌, ◌∙◌, ◌≡◌}
-use Rattle.wasmloop_c.specs.TurnSlices.{TakesSlice, refusal}
+use Rattle.wasmloop_c.specs.TurnSlices.{TakesSlice, IsRefusal}
 use Rattle.wasmloop_c.specs.declared.turn_slices.TurnFlow.{TurnFlow}
 use Rattle.wasmloop_c.proofs.TurnsCut.{none_yet, one_more, over_now, pauses, stays, stays_so}
 use Rattle.wasmloop_c.proofs.turn_slices.take_slices.Goals.{then-taken-eq0, else-taken-eq0}
@@ -37,7 +37,7 @@ returns-in-Refused c =
     elim c.if-taken-eq0.branch [
       | then-taken-eq0 w ↦ let first = c.loop-taken.invariant.first w.if-taken-eq0.true in
           rw (c.left_of-in-Refused.ensures, w.left_of-is) (inr (inr (
-            it.2 ∙ ap (λ (s : LoopStage). refusal s) first.0,
+            subst (λ (s : LoopStage). IsRefusal s c.in-Refused.status) first.0 it.2,
             ap (λ (t : Turning). t.stage) it.0 ∙ first.0,
             it.1 ∙ first.1,
           )))

@@ -13,7 +13,7 @@ all_by P xs h k d below = h k _ (slice_get-get_or xs k d below)
 module _ {J : Type 0} (ticket : J → Ticket) (loaded : Loaded) (serving : Serving) (board : BoardView) (claims : ClaimsView)
     (served : List Served) (lp wp : List (PassView J)) (seats : List WorkerView) where
   abbrev EndsLoop : ℕ → Served → PassView J → Type 0
-  EndsLoop k s p = LoopEnds ticket board (setting_at loaded serving k) s p
+  EndsLoop k s p = LoopEnds ticket board claims.id (setting_at loaded serving k) s p
 
   abbrev EndsWorker : ℕ → PassView J → WorkerView → Type 0
   EndsWorker w p seat = WorkerEnds ticket board claims w p seat
@@ -54,10 +54,10 @@ module _ {J : Type 0} (ticket : J → Ticket) (loaded : Loaded) (serving : Servi
         each_get (λ n x. IsServed (setting_at loaded serving n) x) served k s
         (firsts EndsLoop (λ n x. IsServed (setting_at loaded serving n) x) (λ n x p e. record { numbered = e.numbered; ended = ∥∥₁_map e.did (λ d. d.ended) }) 0 served lp ls) at
 
-    pub jointly : (crew : WorkerView) → length served ≡ serving.loops → length wp ≡ serving.workers → crew.started ≡ flat_map (λ s. s.started) seats → EachOnce crew.started
+    pub jointly : (crew : WorkerView) → crew.claims ≡ claims.id → length served ≡ serving.loops → length wp ≡ serving.workers → crew.started ≡ flat_map (λ s. s.started) seats → EachOnce crew.started
         → IsWhole (map (λ p. p.jobs) (lp ++ wp)) → AreRepliesWhole serving.loops (lp ++ wp) → ∥ JointRun loaded serving served crew ∥₁
-    jointly crew few size started once jobs replies =
+    jointly crew own few size started once jobs replies =
         ∥∥₁_map₂
-        (out (λ k s p. DidEvents ticket (setting_at loaded serving k) s.ending s.emits.items p) 0 served lp (pair_map EndsLoop _ (λ k s p e. e.did) 0 served lp ls))
+        (out (λ k s p. DidEvents ticket claims.id (setting_at loaded serving k) s.ending s.emits.items p) 0 served lp (pair_map EndsLoop _ (λ k s p e. e.did) 0 served lp ls))
         (out (λ w p seat. DidTurns ticket p seat) 0 wp seats (pair_map EndsWorker _ (λ w p s e. e.did) 0 wp seats ws))
-        (λ l w. together ticket loaded serving served lp wp seats crew few size started once jobs replies l w)
+        (λ l w. together ticket loaded serving claims.id served lp wp seats crew own few size started once jobs replies l w)

@@ -10,6 +10,7 @@ pub mod Lookups
 pub mod NumberedLists
 pub mod Offered
 pub mod OneEventMore
+pub mod OneTable
 pub mod Placing
 pub mod PostsBehind
 pub mod Promised

@@ -26,7 +26,7 @@ times_last c xs = let hit = times_hit c c xs (is_request_itself c) in omega arit
 pub handed_append : (events more : List Event) → handed_out (events ++ more) ≡ handed_out events ++ handed_out more
 handed_append events more = flat_map-append handed_in events more
 
-first_none : (e : Event) (events : List Event) → PostsNone (e ∷ events) → PostsNone (e ∷ []) × PostsNone events
+pub first_none : (e : Event) (events : List Event) → PostsNone (e ∷ events) → PostsNone (e ∷ []) × PostsNone events
 first_none MovedBeside events h = absurd h
 first_none _ events h = (tt, h)
 

@@ -6,11 +6,11 @@ use Rattle.serve.specs.declared.plan.ThreadOfLoop.{ThreadOfLoop}
 use Rattle.serve.specs.declared.plan.ServicePlan.{ServicePlan}
 
 module _ {J : Type 0} (ticket : J → Ticket) where
-  pub loop_ended : (plan : ServicePlan) (board : BoardView) (k : ℕ) (promise : ThreadOfLoop J) (s : Served) (p : PassView J) → IsThreadOf plan board k promise
-      → LoopEnds ticket promise.board.now (setting_at (arc_value promise.plan.now.linked) promise.plan.now.serving promise.loop_no) s p
-      → LoopEnds ticket board (setting_at (arc_value plan.linked) plan.serving k) s p
-  loop_ended plan board k promise s p h ended =
-      rw (h.board_is, h.plan_is, h.number) at ended
+  pub loop_ended : (plan : ServicePlan) (board : BoardView) (claims : ClaimsView) (k : ℕ) (promise : ThreadOfLoop J) (s : Served) (p : PassView J) → IsThreadOf plan board claims k promise
+      → LoopEnds ticket promise.board.now promise.claims.now.id (setting_at (arc_value promise.plan.now.linked) promise.plan.now.serving promise.loop_no) s p
+      → LoopEnds ticket board claims.id (setting_at (arc_value plan.linked) plan.serving k) s p
+  loop_ended plan board claims k promise s p h ended =
+      rw (h.board_is, h.claims_are, h.plan_is, h.number) at ended
 
   pub worker_ended : (board : BoardView) (claims : ClaimsView) (w : ℕ) (promise : ThreadOfWorker J) (p : PassView J) (seat : WorkerView) → IsWorkerThreadOf board claims w promise
       → WorkerEnds ticket promise.board.now promise.claims.now promise.worker_no p seat → WorkerEnds ticket board claims w p seat

@@ -4,6 +4,7 @@ use Rattle.serve.proofs.Words.{EachPair, end_of, EndOffered, Event, false, flat_
 use Rattle.serve.proofs.Words.{JointRun, length, List, Loaded, map, Named, offer_of, offered_in, order_of, passed_of, PassView, Put, put_for, refl, Reply}
 use Rattle.serve.proofs.Words.{same_Some, Served, Serving, setting_at, slice_get, Some, started_by, subst, suc, sym, thread_calls, Ticket, true, Turn, WorkEnd}
 use Rattle.serve.proofs.Words.{WorkerView, WorkOrder, zero, ℕ, [], ∥∥₁_map₂, ◌++◌, ◌+◌, ◌<◌, ◌==◌, ◌∙◌, ◌∷◌, ◌≡◌, ◌≤◌, ◌⊎◌}
+use Rattle.atomic_table.specs.Seated.{TableId}
 use Rattle.serve.specs.Joint.{IsPut, puts, is_offered, ticket_for, times_in}
 use Rattle.serve.proofs.JointCounts.{Pairs, count_map, PostsWithin, TakesThese, PutsNone, PutsThese, taken_within, offered_within}
 use Rattle.serve.proofs.Lookups.{not_there, is_within, front_at, split_at, by_index, to_index, map_at, map_back}
@@ -110,15 +111,15 @@ module _ {J : Type 0} (passes : List (PassView J)) (k : ℕ) (hands : List (Hand
       let back = map_back (λ (q : PassView J). slice_get q.replies k) passes i (Some h) there in
       (back.0, back.1, back.2)
 
-module _ {J : Type 0} (ticket : J → Ticket) (loaded : Loaded) (serving : Serving) where
+module _ {J : Type 0} (ticket : J → Ticket) (loaded : Loaded) (serving : Serving) (claims : TableId) where
   abbrev DidLoop : ℕ → Served → PassView J → Type 0
-  DidLoop k s p = DidEvents ticket (setting_at loaded serving k) s.ending s.emits.items p
+  DidLoop k s p = DidEvents ticket claims (setting_at loaded serving k) s.ending s.emits.items p
 
   abbrev DidWorker : ℕ → PassView J → WorkerView → Type 0
   DidWorker w p seat = DidTurns ticket p seat
 
   module _ (served : List Served) (lp wp : List (PassView J)) (seats : List WorkerView) (crew : WorkerView)
-      (few : length served ≡ serving.loops) (crew_size : length wp ≡ serving.workers)
+      (own_crew : crew.claims ≡ claims) (few : length served ≡ serving.loops) (crew_size : length wp ≡ serving.workers)
       (started : crew.started ≡ flat_map (λ s. s.started) seats) (once : EachOnce crew.started)
       (jobs : IsWhole (map (λ p. p.jobs) (lp ++ wp))) (replies : AreRepliesWhole serving.loops (lp ++ wp))
       (ls : EachPair DidLoop 0 served lp) (ws : EachPair DidWorker 0 wp seats) where
@@ -168,15 +169,18 @@ module _ {J : Type 0} (ticket : J → Ticket) (loaded : Loaded) (serving : Servi
           below = omega arith;
         }
 
-    each : (k : ℕ) (s : Served) (events : List Event) → slice_get served k ≡ Some s → slice_get loops k ≡ Some events
-        → (ended : HasEnded thread_calls (setting_at loaded serving k) s.ending s.emits.items) × (ended.done.events ≡ events)
-        × FoundBehind [] (passed_of (setting_at loaded serving k) ended.done)
-    each k s events at e =
+    -- what a loop of this number did, which has ended so, with a seat of the crew's claims
+    abbrev DoesAt : (k : ℕ) (s : Served) (events : List Event) → Type 0
+    DoesAt k s events =
+        (ended : HasEnded thread_calls (setting_at loaded serving k) s.ending s.emits.items) × (ended.done.events ≡ events)
+        × FoundBehind [] (passed_of (setting_at loaded serving k) ended.done) × (ended.now.shared.loop_seat.claims ≡ crew.claims)
+
+    does_at : (k : ℕ) (s : Served) (events : List Event) → slice_get served k ≡ Some s → slice_get loops k ≡ Some events → DoesAt k s events
+    does_at k s events at e =
         let f = found DidLoop events_of 0 k served lp ls events e in
         let same : f.0.x ≡ s = same_Some f.0.x s (sym f.0.first ∙ at) in
-        let P : ℕ → Served → Type 0 = λ n x. (ended : HasEnded thread_calls (setting_at loaded serving n) x.ending x.emits.items) × (ended.done.events ≡ events)
-        × FoundBehind [] (passed_of (setting_at loaded serving n) ended.done) in
-        subst (λ n. P n s) (let p = f.1 in omega arith) (subst (P f.0.place) same (f.0.known.ended, f.0.is, f.0.known.found))
+        subst (λ n. DoesAt n s events) (let p = f.1 in omega arith)
+        (subst (λ x. DoesAt f.0.place x events) same (f.0.known.ended, f.0.is, f.0.known.found, f.0.known.of_claims ∙ sym own_crew))
 
     offered : (k : ℕ) (events : List Event) → slice_get loops k ≡ Some events → (t : Ticket) → count_by (is_offered t) events ≤ times_in (puts t) workers
     offered k events e t =
@@ -222,7 +226,8 @@ module _ {J : Type 0} (ticket : J → Ticket) (loaded : Loaded) (serving : Servi
       workers = workers;
       loop_count = as_many DidLoop events_of 0 served lp ls ∙ few;
       worker_count = as_many DidWorker turns_of 0 wp seats ws ∙ crew_size;
-      each = each;
+      each = λ k s events at e. let it = does_at k s events at e in (it.0, it.1, it.2);
+      own = λ k s events at e. (does_at k s events at e).3;
       started = started ∙ seats_started 0 wp seats ws;
       once = once;
       taken = λ t. taken_within ticket t lp wp loops workers

@@ -1,11 +1,16 @@
 -- How the history of a loop in its thread goes on, tied to its pass.
+use Rattle.serve.proofs.Words.{Failed, Loop, next_in, Over, Request, Running, Seats, State, Status}
 use Rattle.serve.proofs.Words.{ap, arith, Collects, emitted, end_of, EndOffered, Err, Event, handed_out, HasDone, HasTied, IsOffered, IsTied, IsTiedSoFar, List}
 use Rattle.serve.proofs.Words.{LoopRecord, LoopThread, MovedBeside, MovesAlone, MovesBy, None, offered_in, Ok, OnOk, Option, option_to_list, Order, order_of}
 use Rattle.serve.proofs.Words.{OrderAsked, Posts, PostsAmong, RecordHandsOut, RecordPosts, refl, Reply, Result, Some, steps_join, subst, sym, thread_calls}
 use Rattle.serve.proofs.Words.{ThreadStep, Ticket, ticket_of, [], ∥∥₁_map, ◌++◌, ◌∙◌, ◌∷◌, ◌≡◌, ◌≢◌}
 use Rattle.std.specs.Prelude.{IfSome, IfNone}
 use Rattle.serve.specs.Inner.Posts.{IsBehind}
-use Rattle.serve.specs.Inner.Threads.{Stays, KeepsGoing}
+use Rattle.phases.specs.Host.{with_requests}
+use Rattle.phases.specs.Outside.{handing, next_order_of}
+use Rattle.phases.specs.Requests.{lowest_open, Requests}
+use Rattle.serve.specs.Inner.Threads.{HandsOutNone, Stays, KeepsGoing}
+use Rattle.serve.proofs.OneTable.{claims_of, unposted_claims, alone_claims, handed_claims}
 use Rattle.serve.proofs.OneEventMore.{no_move, emitted_append, callbacks_append}
 use Rattle.serve.proofs.PostsBehind.{GoesBehind, goes_unposted, moves_posted, behind_posted, handed_append, found_then}
 use Rattle.serve.proofs.Tying.{tied_more, tied_less, tied_made, tied_post, tied_collect}
@@ -46,6 +51,23 @@ done_more old new events moves goes d behind =
       },
     )
 
+-- a loop that has handed out none has none left
+handed_none : (rs : Requests) (o : Option Request) → (handing rs o).0 ≡ None → (handing rs o).1 ≡ rs
+handed_none rs None none = refl
+handed_none rs (Some r) none = absurd (cc)
+
+still_none : (status : Status) (s : State) → (next_in status s).0 ≡ None → (next_in status s).1 ≡ s
+still_none Failed s none = refl
+still_none Running s none = ap (with_requests s) (handed_none s.requests (lowest_open s.requests) none)
+still_none Over s none = ap (with_requests s) (handed_none s.requests (lowest_open s.requests) none)
+
+pub hands_out_none : (old new : LoopRecord) → RecordHandsOut old None new → HandsOutNone new
+hands_out_none old new handed =
+    let s = old.core.loop.state in
+    let none = sym handed.history.1.0.0 in
+    let same : new.core.loop.state ≡ (next_order_of s).1 = ap (λ (l : Loop Seats). l.state) (handed.history.2 ∙ handed.history.1.0.1) in
+    ap (λ x. (next_order_of x).0) (same ∙ still_none s.status s none) ∙ none
+
 module _ {J : Type 0} (ticket : J → Ticket) (old new : LoopThread J) where
   pub told_more : (kept kept' : List J) (events : List Event) → MovesBy old.recorded events new.recorded → GoesBehind old.recorded new.recorded events
       → ((was : List Event) → IsTied ticket old.loop_no old.pass kept was → IsTied ticket new.loop_no new.pass kept' (was ++ events)) → ∥ HasTied ticket old kept ∥₁ → ∥ HasTied ticket new kept' ∥₁
@@ -68,10 +90,11 @@ module _ {J : Type 0} (ticket : J → Ticket) (old new : LoopThread J) where
         record { done = e.0; tied = subst (IsTied ticket new.loop_no new.pass kept') (sym e.1) (f t.done.events t.tied); behind = e.2 }
 
   -- no reply is offered
-  stays_quiet : new.board ≡ old.board → new.loop_no ≡ old.loop_no → new.pass ≡ old.pass → new.kept ≡ old.kept
+  stays_quiet : new.board ≡ old.board → claims_of new.recorded ≡ claims_of old.recorded → new.loop_no ≡ old.loop_no → new.pass ≡ old.pass → new.kept ≡ old.kept
       → (events : List Event) → offered_in events ≡ [] → MovesBy old.recorded events new.recorded → GoesBehind old.recorded new.recorded events → Stays ticket old new
-  stays_quiet board number pass kept events none moves goes = record {
+  stays_quiet board claims number pass kept events none moves goes = record {
     board = board;
+    claims = claims;
     setting = moves.setting;
     told = told_more (option_to_list old.kept) (option_to_list new.kept) events moves goes
         (λ was tied.
@@ -83,7 +106,7 @@ module _ {J : Type 0} (ticket : J → Ticket) (old new : LoopThread J) where
   -- the loop moves alone
   pub stays_alone : new.board ≡ old.board → new.loop_no ≡ old.loop_no → new.pass ≡ old.pass → new.kept ≡ old.kept → MovesAlone old.recorded new.recorded → Stays ticket old new
   stays_alone board number pass kept moves =
-      stays_quiet board number pass kept moves.events moves.none moves.moves (goes_unposted old.recorded new.recorded moves.events moves.unposted)
+      stays_quiet board (alone_claims old.recorded new.recorded moves) number pass kept moves.events moves.none moves.moves (goes_unposted old.recorded new.recorded moves.events moves.unposted)
 
   pub stays_same : new.board ≡ old.board → new.loop_no ≡ old.loop_no → new.pass ≡ old.pass → new.kept ≡ old.kept → new.recorded ≡ old.recorded → Stays ticket old new
   stays_same board number pass kept same =
@@ -97,6 +120,7 @@ module _ {J : Type 0} (ticket : J → Ticket) (old new : LoopThread J) where
       let e : List Event = EndOffered (order_of reply.order) (end_of reply.outcome) offered.0 ∷ [] in
       record {
         board = board;
+        claims = unposted_claims old.recorded new.recorded e tt offered.1.history;
         setting = offered.1.setting;
         told = told_more (option_to_list old.kept) (option_to_list new.kept) e offered.1 (goes_unposted old.recorded new.recorded e tt)
             (λ was tied.
@@ -126,7 +150,7 @@ module _ {J : Type 0} (ticket : J → Ticket) (old new : LoopThread J) where
 
     -- no job is kept of it
     pub stays_posted : new.board ≡ old.board → new.loop_no ≡ old.loop_no → new.pass ≡ old.pass → old.kept ≡ None → new.kept ≡ None → Stays ticket old new
-    stays_posted board number pass was_none none = stays_quiet board number pass (none ∙ sym was_none) asked refl moves goes
+    stays_posted board number pass was_none none = stays_quiet board (handed_claims old.recorded mid new.recorded order handed posts) number pass (none ∙ sym was_none) asked refl moves goes
 
     -- or its job was made
     told_made : (job : J) → new.loop_no ≡ old.loop_no → new.pass ≡ old.pass → old.kept ≡ None → ticket job ≡ ticket_of order → IsTiedSoFar ticket old → ∥ HasTied ticket new (job ∷ []) ∥₁
@@ -154,6 +178,7 @@ module _ {J : Type 0} (ticket : J → Ticket) (old new : LoopThread J) where
   pub stays_less : new.board ≡ old.board → new.loop_no ≡ old.loop_no → new.pass ≡ old.pass → new.recorded ≡ old.recorded → new.kept ≡ None → Stays ticket old new
   stays_less board number pass same none = record {
     board = board;
+    claims = ap claims_of same;
     setting = ap (λ (r : LoopRecord). r.core.setting) same;
     told = told_still (option_to_list old.kept) (option_to_list new.kept) same
         (λ was tied.
@@ -177,7 +202,7 @@ module _ {J : Type 0} (ticket : J → Ticket) (old new : LoopThread J) where
 
 module _ {J : Type 0} (ticket : J → Ticket) where
   pub stays_then : (a b c : LoopThread J) → Stays ticket a b → Stays ticket b c → Stays ticket a c
-  stays_then a b c h rest = record { board = rest.board ∙ h.board; setting = rest.setting ∙ h.setting; told = λ t. rest.told (h.told t) }
+  stays_then a b c h rest = record { board = rest.board ∙ h.board; claims = rest.claims ∙ h.claims; setting = rest.setting ∙ h.setting; told = λ t. rest.told (h.told t) }
 
   pub keeps_then : (a b c : LoopThread J) → KeepsGoing ticket a b → KeepsGoing ticket b c → KeepsGoing ticket a c
   keeps_then a b c h rest = (stays_then a b c h.0 rest.0, λ goes. rest.1 (h.1 goes))
@@ -187,6 +212,7 @@ module _ {J : Type 0} (ticket : J → Ticket) where
       → (∥ HasTied ticket b (job ∷ []) ∥₁ → IsTiedSoFar ticket c) → Stays ticket a c
   stays_with a b c job h made board same told = record {
     board = board ∙ h.board;
+    claims = ap claims_of same ∙ h.claims;
     setting = ap (λ (r : LoopRecord). r.core.setting) same ∙ h.setting;
     told = λ t. told (made t);
   }

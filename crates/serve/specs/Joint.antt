@@ -47,7 +47,8 @@ IsPut workers o end =
 
 -- There are a history of each loop, which its answer reports, and in which the loop has found started only what it had handed out
 -- before; and the turns of each worker, in order, which started just what the crew's seats have started, worker by worker: each
--- ticket once. Of every ticket workers took, all together, at most as many jobs as its order was handed out. Of every ticket a loop
+-- ticket once. The seat with which a loop has ended is of the same claims as the crew's: what a loop cancels, and what a worker starts,
+-- are words of one table. Of every ticket workers took, all together, at most as many jobs as its order was handed out. Of every ticket a loop
 -- was offered at most as many replies as workers put, all together; each is to a request of its own, and in all fields one that a
 -- worker put.
 pub record JointRun (loaded : Loaded) (serving : Serving) (served : List Served) (crew : WorkerView) : Type 0 where
@@ -58,6 +59,8 @@ pub record JointRun (loaded : Loaded) (serving : Serving) (served : List Served)
   pub each : (k : ℕ) (s : Served) (events : List Event) → slice_get served k ≡ Some s → slice_get loops k ≡ Some events
       → (ended : HasEnded thread_calls (setting_at loaded serving k) s.ending s.emits.items) × (ended.done.events ≡ events)
       × FoundBehind [] (passed_of (setting_at loaded serving k) ended.done)
+  pub own : (k : ℕ) (s : Served) (events : List Event) (at : slice_get served k ≡ Some s) (did : slice_get loops k ≡ Some events)
+      → (each k s events at did).0.now.shared.loop_seat.claims ≡ crew.claims
   pub started : crew.started ≡ flat_map started_by workers
   pub once : EachOnce crew.started
   pub taken : (t : Ticket) → times_in (takes t) workers ≤ times_in (asks t) loops

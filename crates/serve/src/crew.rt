@@ -110,6 +110,7 @@ pub fn gather_seats(claims: &Claims, mut seats: Vec<WorkerSeat>) -> WorkerSeat
     requires one { 0 < length seats.items }
     requires own { All (λ s. s.claims ≡ claims.now.id) seats.items }
     requires once { All (λ s. EachOnce s.started) seats.items }
+    ensures claims { result.claims ≡ claims.now.id }
     ensures started { result.started ≡ flat_map (λ s. s.started) seats.items }
     ensures once { EachOnce result.started }
 {

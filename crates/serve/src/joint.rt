@@ -40,7 +40,8 @@ pub struct JointlyServed {
 /// Runs loops of the module and workers, each in a thread of its own, until all loops have ended. What each loop did, in
 /// the order of their numbers: it has a history from its opening, over its seats, in which its callbacks emitted just
 /// the answer's values, and at whose end it has ended as the answer says. `make` makes the job of an order,
-/// with the order's ticket: one of another ticket counts as one for which there was no memory.
+/// with the order's ticket: one of another ticket is dropped, and its request stays outstanding,
+/// so `serve` may never return.
 ///
 /// If memory is refused, no further thread is started and a loop that it concerns ends; the error comes once all
 /// threads have ended.
@@ -172,7 +173,7 @@ fn gathered<J: Job>(
     requires loops { (length board.now.replies ≡ plan.now.serving.loops) × (claims.now.loops ≡ plan.now.serving.loops) }
     requires gathering { IsNewGathering board.now (plan.now.serving.loops + plan.now.serving.workers) gathering }
     requires loops_count { length ended.served.items ≡ plan.now.serving.loops }
-    requires loops_end { EachPair (λ k s p. LoopEnds J.ticket board.now (setting_at (arc_value plan.now.linked) plan.now.serving k) s p) 0 ended.served.items ended.loops.items }
+    requires loops_end { EachPair (λ k s p. LoopEnds J.ticket board.now claims.now.id (setting_at (arc_value plan.now.linked) plan.now.serving k) s p) 0 ended.served.items ended.loops.items }
     requires workers_count { length ended.workers.items ≡ plan.now.serving.workers }
     requires workers_end { EachPair (WorkerEnds J.ticket board.now claims.now) 0 ended.workers.items ended.seats.items }
     ensures count { IfOk result (λ all. length all.served.items ≡ plan.now.serving.loops) }

@@ -36,13 +36,13 @@ pub struct LoopThread<'a, J> {
 }
 
 impl<'a, J: Job> LoopThread<'a, J> {
-    ghost use Rattle.std.specs.Prelude.{◌≡◌, ◌<◌, Some, None, length, option_to_list, IfOk, IfSome};
+    ghost use Rattle.std.specs.Prelude.{◌≡◌, ◌<◌, Some, None, length, IfOk, IfSome, OnOk};
     ghost use Rattle.std.specs.Arc.{arc_value};
     ghost use Rattle.board.specs.Boards.{IsEventOf};
     ghost use Rattle.marks.specs.Counts.{new_taker};
     ghost use Rattle.serve.specs.Histories.{EndsBy, IsDrained, setting_at, thread_calls};
     ghost use Rattle.serve.specs.Inner.Ends.{LoopEnds};
-    ghost use Rattle.serve.specs.Inner.Threads.{CanGoOn, HasTied, IsTiedSoFar, KeepsGoing, ComesServing};
+    ghost use Rattle.serve.specs.Inner.Threads.{CanGoOn, HandsOutNone, HasTied, jobs_in, IsTiedSoFar, KeepsGoing, ComesServing};
     ghost use Rattle.serve.specs.Inner.Turns.{IsAtTurn};
 
     /// A loop that has done nothing, over a new instance of the module.
@@ -58,6 +58,7 @@ impl<'a, J: Job> LoopThread<'a, J> {
     ) -> Result<LoopThread<'a, J>, AllocError>
         requires { taker ≡ new_taker marks.now 0 }
         ensures board { IfOk result (λ t. t.board ≡ place.entry.board) }
+        ensures claims { IfOk result (λ t. t.recorded.core.loop.shared.loop_seat.claims ≡ place.entry.claims.now.id) }
         ensures told { IfOk result (λ t. IsTiedSoFar J.ticket t) }
         ensures setting { IfOk result (λ t. t.recorded.core.setting ≡ setting_at (arc_value linked) serving place.entry.seat.loop_no) }
         ensures goes { IfOk result (λ t. CanGoOn t.recorded) }
@@ -94,7 +95,7 @@ impl<'a, J: Job> LoopThread<'a, J> {
         requires ready { S.ready service.now }
         requires goes { CanGoOn self.recorded }
         requires told { IsTiedSoFar J.ticket self }
-        ensures { IfOk result (λ r. LoopEnds J.ticket self.entry.board.now self.entry.recorded.core.setting r.0 r.1) }
+        ensures { IfOk result (λ r. LoopEnds J.ticket self.entry.board.now self.entry.recorded.core.loop.shared.loop_seat.claims self.entry.recorded.core.setting r.0 r.1) }
     {
         let ending = self.until_ended(service)?;
         Ok(self.into_served(ending))
@@ -104,7 +105,7 @@ impl<'a, J: Job> LoopThread<'a, J> {
     fn into_served(self, ending: LoopEnding) -> (Served, Pass<J>)
         requires ends { EndsBy thread_calls ending self.recorded.core.loop self.recorded.ran }
         requires told { IsTiedSoFar J.ticket self }
-        ensures { LoopEnds J.ticket self.entry.board.now self.entry.recorded.core.setting result.0 result.1 }
+        ensures { LoopEnds J.ticket self.entry.board.now self.entry.recorded.core.loop.shared.loop_seat.claims self.entry.recorded.core.setting result.0 result.1 }
     {
         let served = self.recorded.into_served(self.loop_no, ending);
         (served, self.pass)
@@ -224,11 +225,15 @@ impl<'a, J: Job> LoopThread<'a, J> {
     fn post_all<S: Serves<J>>(&mut self, service: &S) -> Result<(), AllocError>
         requires ready { S.ready service.now }
         ensures keeps { KeepsGoing J.ticket self.old self.new }
+        ensures all { OnOk result (self.new.kept ≡ None → HandsOutNone self.new.recorded) }
     {
         let rt = service.rt();
         for _ in rt.forever() {
-            let Some(job) = self.next_job(service)? else {
+            let Some(next) = self.next_job(service)? else {
                 return Ok(());
+            };
+            let Some(job) = next else {
+                continue;
             };
             if let Err(job) = self.board.post(rt, &mut self.pass, job) {
                 self.kept = Some(job);
@@ -238,16 +243,17 @@ impl<'a, J: Job> LoopThread<'a, J> {
         unreachable!()
     }
 
-    /// The job that was kept, or one for the next order, whose request is posted and reported so. None if there is no order, or its job
-    /// has another ticket.
-    fn next_job<S: Serves<J>>(&mut self, service: &S) -> Result<Option<J>, AllocError>
+    /// The job that was kept, or one for the next order, whose request is posted and reported so: None in its place if it has
+    /// another ticket. None if there is no order.
+    fn next_job<S: Serves<J>>(&mut self, service: &S) -> Result<Option<Option<J>>, AllocError>
         requires ready { S.ready service.now }
         ensures keeps { KeepsGoing J.ticket self.old self.new }
         ensures none { self.new.kept ≡ None }
-        ensures told { IfOk result (λ job. IsTiedSoFar J.ticket self.old → ∥ HasTied J.ticket self.new (option_to_list job) ∥₁) }
+        ensures over { IfOk result (λ next. next ≡ None → HandsOutNone self.new.recorded) }
+        ensures told { IfOk result (λ next. IsTiedSoFar J.ticket self.old → ∥ HasTied J.ticket self.new (jobs_in next) ∥₁) }
     {
         if let Some(job) = self.kept.take() {
-            return Ok(Some(job));
+            return Ok(Some(Some(job)));
         }
         let Some(order) = self.recorded.next_order() else {
             return Ok(None);
@@ -258,6 +264,6 @@ impl<'a, J: Job> LoopThread<'a, J> {
             .post(service.rt(), self.loop_no, order.request);
         let meter = self.recorded.meter()?;
         let made = service.job(order, meter)?;
-        Ok(made)
+        Ok(Some(made))
     }
 }

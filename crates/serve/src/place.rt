@@ -132,6 +132,7 @@ fn loop_place<'a, J>(
     requires seat { seat ≡ new_loop_view claims.now.id seat.loop_no }
     requires there { seat.loop_no < length board.now.replies }
     ensures board { result.board.now ≡ board.now }
+    ensures claims { result.claims.now ≡ claims.now }
     ensures number { result.seat.loop_no ≡ seat.loop_no }
 {
     LoopPlace {
@@ -155,7 +156,7 @@ fn loop_places<'a, J: Drop>(
     requires count { length passes.items ≡ length seats.items }
     requires loops { length board.now.replies ≡ length seats.items }
     ensures count { IfOk result (λ places. length places.items ≡ length seats.items) }
-    ensures each { IfOk result (λ places. EachDown (λ k p. (p.board.now ≡ board.now) × (p.seat.loop_no ≡ k)) (length places.items) places.items) }
+    ensures each { IfOk result (λ places. EachDown (λ k p. (p.board.now ≡ board.now) × (p.claims.now ≡ claims.now) × (p.seat.loop_no ≡ k)) (length places.items) places.items) }
 {
     let mut places = Vec::with_capacity(alloc, seats.len())?;
     while let Some(seat) = seats.pop() {
@@ -182,7 +183,7 @@ pub fn places<'a, J: Drop>(
     ensures workers_count { IfOk result (λ m. length m.0.items ≡ length worker_seats.items) }
     ensures workers { IfOk result (λ m. EachDown (λ w p. (p.board.now ≡ board.now) × (p.claims.now ≡ claims.now) × (p.seat.worker_no ≡ w)) (length m.0.items) m.0.items) }
     ensures loops_count { IfOk result (λ m. length m.1.items ≡ length loop_seats.items) }
-    ensures loops { IfOk result (λ m. EachDown (λ k p. (p.board.now ≡ board.now) × (p.seat.loop_no ≡ k)) (length m.1.items) m.1.items) }
+    ensures loops { IfOk result (λ m. EachDown (λ k p. (p.board.now ≡ board.now) × (p.claims.now ≡ claims.now) × (p.seat.loop_no ≡ k)) (length m.1.items) m.1.items) }
 {
     let workers = worker_places(alloc, board, &mut passes, claims, worker_seats)?;
     let loops = loop_places(alloc, board, passes, claims, loop_seats)?;

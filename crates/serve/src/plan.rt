@@ -15,6 +15,7 @@ use crate::service::Serves;
 use crate::serving::Serving;
 use crate::watch::Watch;
 use board::{Board, Pass};
+use claims::Claims;
 use imports::Linked;
 use marks::{Marks, TakeSeat};
 use std::alloc::{AllocError, Global};
@@ -39,11 +40,12 @@ pub type LoopResult<J> = Result<(Served, Pass<J>), AllocError>;
 pub struct ThreadOfLoop<'a, J> {
     pub plan: &'a ServicePlan,
     pub board: &'a Board<J>,
+    pub claims: &'a Claims,
     pub loop_no: u32,
 }
 
 impl<'a, J: Job> Promise<LoopResult<J>> for ThreadOfLoop<'a, J> {
-    ghost kept_by = { λ p r. IfOk r (λ end. LoopEnds J.ticket p.board.now (setting_at (arc_value p.plan.now.linked) p.plan.now.serving p.loop_no) end.0 end.1) };
+    ghost kept_by = { λ p r. IfOk r (λ end. LoopEnds J.ticket p.board.now p.claims.now.id (setting_at (arc_value p.plan.now.linked) p.plan.now.serving p.loop_no) end.0 end.1) };
 }
 
 impl ServicePlan {
@@ -68,7 +70,7 @@ impl ServicePlan {
     /// One loop, until it has ended.
     pub fn run<S: Serves<J>, J: Job>(&self, service: &S, place: LoopPlace<'_, J>) -> LoopResult<J>
         requires { S.ready service.now }
-        ensures { IfOk result (λ r. LoopEnds J.ticket place.entry.board.now (setting_at (arc_value self.now.linked) self.now.serving place.entry.seat.loop_no) r.0 r.1) }
+        ensures { IfOk result (λ r. LoopEnds J.ticket place.entry.board.now place.entry.claims.now.id (setting_at (arc_value self.now.linked) self.now.serving place.entry.seat.loop_no) r.0 r.1) }
     {
         let outcome = self.turns(service, place);
         if outcome.is_err() {
@@ -79,7 +81,7 @@ impl ServicePlan {
 
     fn turns<S: Serves<J>, J: Job>(&self, service: &S, place: LoopPlace<'_, J>) -> LoopResult<J>
         requires { S.ready service.now }
-        ensures { IfOk result (λ r. LoopEnds J.ticket place.entry.board.now (setting_at (arc_value self.now.linked) self.now.serving place.entry.seat.loop_no) r.0 r.1) }
+        ensures { IfOk result (λ r. LoopEnds J.ticket place.entry.board.now place.entry.claims.now.id (setting_at (arc_value self.now.linked) self.now.serving place.entry.seat.loop_no) r.0 r.1) }
     {
         let (marks, taker) = own_marks(self.alloc)?;
         let thread = self.begin(&marks, taker, place, service.watch().measures_work())?;
@@ -96,6 +98,7 @@ impl ServicePlan {
     ) -> Result<LoopThread<'a, J>, AllocError>
         requires { taker ≡ new_taker marks.now 0 }
         ensures board { IfOk result (λ t. t.board ≡ place.entry.board) }
+        ensures claims { IfOk result (λ t. t.recorded.core.loop.shared.loop_seat.claims ≡ place.entry.claims.now.id) }
         ensures told { IfOk result (λ t. IsTiedSoFar J.ticket t) }
         ensures setting { IfOk result (λ t. t.recorded.core.setting ≡ setting_at (arc_value self.now.linked) self.now.serving place.entry.seat.loop_no) }
         ensures goes { IfOk result (λ t. CanGoOn t.recorded) }

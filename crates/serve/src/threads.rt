@@ -56,9 +56,9 @@ pub fn run_all<
 ) -> Result<ThreadsEnded<J>, AllocError>
     requires make { M.IsAlwaysCallable service.now.make.now }
     requires workers { EachDown (λ w p. (p.board.now ≡ board.now) × (p.claims.now ≡ claims.now) × (p.seat.worker_no ≡ w)) (length workers.items) workers.items }
-    requires loops { EachDown (λ k p. (p.board.now ≡ board.now) × (p.seat.loop_no ≡ k)) (length loops.items) loops.items }
+    requires loops { EachDown (λ k p. (p.board.now ≡ board.now) × (p.claims.now ≡ claims.now) × (p.seat.loop_no ≡ k)) (length loops.items) loops.items }
     ensures loops_count { IfOk result (λ r. length r.served.items ≡ length loops.entry.items) }
-    ensures loops { IfOk result (λ r. EachPair (λ k s p. LoopEnds J.ticket board.now (setting_at (arc_value plan.now.linked) plan.now.serving k) s p) 0 r.served.items r.loops.items) }
+    ensures loops { IfOk result (λ r. EachPair (λ k s p. LoopEnds J.ticket board.now claims.now.id (setting_at (arc_value plan.now.linked) plan.now.serving k) s p) 0 r.served.items r.loops.items) }
     ensures workers_count { IfOk result (λ r. length r.workers.items ≡ length workers.entry.items) }
     ensures workers { IfOk result (λ r. EachPair (WorkerEnds J.ticket board.now claims.now) 0 r.workers.items r.seats.items) }
 {
@@ -69,9 +69,9 @@ pub fn run_all<
             requires make { M.IsAlwaysCallable service.now.make.now }
             requires sync { IsSync R.row × IsSync M.row × IsSync W.row }
             requires workers { EachDown (λ w p. (p.board.now ≡ board.now) × (p.claims.now ≡ claims.now) × (p.seat.worker_no ≡ w)) (length workers.items) workers.items }
-            requires loops { EachDown (λ k p. (p.board.now ≡ board.now) × (p.seat.loop_no ≡ k)) (length loops.items) loops.items }
+            requires loops { EachDown (λ k p. (p.board.now ≡ board.now) × (p.claims.now ≡ claims.now) × (p.seat.loop_no ≡ k)) (length loops.items) loops.items }
             ensures loops_count { IfOk result (λ r. length r.served.items ≡ length loops.entry.items) }
-            ensures loops { IfOk result (λ r. EachLoopEnds J.ticket board.entry.now (setting_at (arc_value plan.entry.now.linked) plan.entry.now.serving) r.served.items r.loops.items) }
+            ensures loops { IfOk result (λ r. EachLoopEnds J.ticket board.entry.now claims.entry.now.id (setting_at (arc_value plan.entry.now.linked) plan.entry.now.serving) r.served.items r.loops.items) }
             ensures workers_count { IfOk result (λ r. length r.workers.items ≡ length workers.entry.items) }
             ensures workers { IfOk result (λ r. EachPair (WorkerEnds J.ticket board.entry.now claims.entry.now) 0 r.workers.items r.seats.items) }
         { run_in(scope, service, plan, board, claims, workers, loops) },
@@ -98,9 +98,9 @@ fn run_in<
     requires make { M.IsAlwaysCallable service.now.make.now }
     requires sync { IsSync R.row × IsSync M.row × IsSync W.row }
     requires workers { EachDown (λ w p. (p.board.now ≡ board.now) × (p.claims.now ≡ claims.now) × (p.seat.worker_no ≡ w)) (length workers.items) workers.items }
-    requires loops { EachDown (λ k p. (p.board.now ≡ board.now) × (p.seat.loop_no ≡ k)) (length loops.items) loops.items }
+    requires loops { EachDown (λ k p. (p.board.now ≡ board.now) × (p.claims.now ≡ claims.now) × (p.seat.loop_no ≡ k)) (length loops.items) loops.items }
     ensures loops_count { IfOk result (λ r. length r.served.items ≡ length loops.entry.items) }
-    ensures loops { IfOk result (λ r. EachPair (λ k s p. LoopEnds J.ticket board.now (setting_at (arc_value plan.now.linked) plan.now.serving k) s p) 0 r.served.items r.loops.items) }
+    ensures loops { IfOk result (λ r. EachPair (λ k s p. LoopEnds J.ticket board.now claims.now.id (setting_at (arc_value plan.now.linked) plan.now.serving k) s p) 0 r.served.items r.loops.items) }
     ensures workers_count { IfOk result (λ r. length r.workers.items ≡ length workers.entry.items) }
     ensures workers { IfOk result (λ r. EachPair (WorkerEnds J.ticket board.now claims.now) 0 r.workers.items r.seats.items) }
 {
@@ -108,7 +108,7 @@ fn run_in<
     let mut passes = Vec::with_capacity(plan.alloc, workers.len())?;
     let mut seats = Vec::with_capacity(plan.alloc, workers.len())?;
     let outcome = match start_workers(scope, service, board, claims, workers, &mut crew) {
-        Ok(()) => run_loops(scope, service, plan, board, loops),
+        Ok(()) => run_loops(scope, service, plan, board, claims, loops),
         Err(AllocError) => Err(AllocError),
     };
     board.close();
@@ -135,19 +135,28 @@ fn run_loops<
     service: &'s Service<'s, R, M, W>,
     plan: &'s ServicePlan,
     board: &Board<J>,
+    claims: &Claims,
     places: Vec<LoopPlace<'s, J>>,
 ) -> Result<(Vec<Served>, Vec<Pass<J>>), AllocError>
     requires make { M.IsAlwaysCallable service.now.make.now }
     requires sync { IsSync R.row × IsSync M.row × IsSync W.row }
-    requires each { EachDown (λ k p. (p.board.now ≡ board.now) × (p.seat.loop_no ≡ k)) (length places.items) places.items }
+    requires each { EachDown (λ k p. (p.board.now ≡ board.now) × (p.claims.now ≡ claims.now) × (p.seat.loop_no ≡ k)) (length places.items) places.items }
     ensures count { IfOk result (λ r. length r.0.items ≡ length places.entry.items) }
-    ensures each { IfOk result (λ r. EachPair (λ k s p. LoopEnds J.ticket board.now (setting_at (arc_value plan.now.linked) plan.now.serving k) s p) 0 r.0.items r.1.items) }
+    ensures each { IfOk result (λ r. EachPair (λ k s p. LoopEnds J.ticket board.now claims.now.id (setting_at (arc_value plan.now.linked) plan.now.serving k) s p) 0 r.0.items r.1.items) }
 {
     let mut started = Vec::with_capacity(plan.alloc, places.len())?;
     let mut served = Vec::with_capacity(plan.alloc, places.len())?;
     let mut passes = Vec::with_capacity(plan.alloc, places.len())?;
-    let starting = start_loops(scope, service, plan, board, places, &mut started);
-    let ending = join_loops(service.rt, plan, board, started, &mut served, &mut passes);
+    let starting = start_loops(scope, service, plan, board, claims, places, &mut started);
+    let ending = join_loops(
+        service.rt,
+        plan,
+        board,
+        claims,
+        started,
+        &mut served,
+        &mut passes,
+    );
     starting?;
     ending?;
     Ok((served, passes))
@@ -166,6 +175,7 @@ fn start_loops<
     service: &'s Service<'s, R, M, W>,
     plan: &'s ServicePlan,
     board: &Board<J>,
+    claims: &Claims,
     mut places: Vec<LoopPlace<'s, J>>,
     started: &mut Vec<LoopHandle<'s, J>>,
 ) -> Result<(), AllocError>
@@ -173,10 +183,10 @@ fn start_loops<
     requires sync { IsSync R.row × IsSync M.row × IsSync W.row }
     requires room { length places.items ≤ vec_capacity started.old }
     requires none { started.old.items ≡ [] }
-    requires each { EachDown (λ k p. (p.board.now ≡ board.now) × (p.seat.loop_no ≡ k)) (length places.items) places.items }
+    requires each { EachDown (λ k p. (p.board.now ≡ board.now) × (p.claims.now ≡ claims.now) × (p.seat.loop_no ≡ k)) (length places.items) places.items }
     ensures count { OnOk result (length started.new.items ≡ length places.entry.items) }
     ensures at_most { length started.new.items ≤ length places.entry.items }
-    ensures promised { EachFrom (λ k h. IsThreadOf plan.now board.now k h.promise) 0 started.new.items }
+    ensures promised { EachFrom (λ k h. IsThreadOf plan.now board.now claims.now k h.promise) 0 started.new.items }
 {
     while let Some(place) = places.pop() {
         let thread = start_loop(scope, service, plan, place)?;
@@ -201,23 +211,24 @@ fn start_loop<
 ) -> Result<LoopHandle<'s, J>, AllocError>
     requires make { M.IsAlwaysCallable service.now.make.now }
     requires sync { IsSync R.row × IsSync M.row × IsSync W.row }
-    ensures { IfOk result (λ h. IsThreadOf plan.now place.entry.board.now place.entry.seat.loop_no h.promise) }
+    ensures { IfOk result (λ h. IsThreadOf plan.now place.entry.board.now place.entry.claims.now place.entry.seat.loop_no h.promise) }
 {
     if plan.ran_out() {
         return Err(AllocError);
     }
-    let board = place.board;
+    let (board, claims) = (place.board, place.claims);
     let loop_no = place.seat.loop_no();
     let thread = scope.spawn_with(
         ThreadOfLoop {
             plan,
             board,
+            claims,
             loop_no,
         },
         move || -> LoopResult<J>
             requires make { M.IsAlwaysCallable service.now.make.now }
             requires sync { IsSync R.row × IsSync M.row × IsSync W.row }
-            ensures { IfOk result (λ r. LoopEnds J.ticket place.entry.board.now (setting_at (arc_value plan.entry.now.linked) plan.entry.now.serving place.entry.seat.loop_no) r.0 r.1) }
+            ensures { IfOk result (λ r. LoopEnds J.ticket place.entry.board.now place.entry.claims.now.id (setting_at (arc_value plan.entry.now.linked) plan.entry.now.serving place.entry.seat.loop_no) r.0 r.1) }
         { plan.run(service, place) },
     )?;
     Ok(thread)
@@ -228,15 +239,16 @@ fn join_loops<'s, R: Threads, J: Job>(
     rt: &R,
     plan: &'s ServicePlan,
     board: &Board<J>,
+    claims: &Claims,
     started: Vec<LoopHandle<'s, J>>,
     served: &mut Vec<Served>,
     passes: &mut Vec<Pass<J>>,
 ) -> Result<(), AllocError>
     requires room { (length started.items ≤ vec_capacity served.old) × (length started.items ≤ vec_capacity passes.old) }
     requires none { (served.old.items ≡ []) × (passes.old.items ≡ []) }
-    requires promised { EachFrom (λ k h. IsThreadOf plan.now board.now k h.promise) 0 started.items }
+    requires promised { EachFrom (λ k h. IsThreadOf plan.now board.now claims.now k h.promise) 0 started.items }
     ensures count { OnOk result (length served.new.items ≡ length started.entry.items) }
-    ensures each { OnOk result (EachPair (λ k s p. LoopEnds J.ticket board.now (setting_at (arc_value plan.now.linked) plan.now.serving k) s p) 0 served.new.items passes.new.items) }
+    ensures each { OnOk result (EachPair (λ k s p. LoopEnds J.ticket board.now claims.now.id (setting_at (arc_value plan.now.linked) plan.now.serving k) s p) 0 served.new.items passes.new.items) }
 {
     let mut ending = Ok(());
     for thread in started {

@@ -1,5 +1,6 @@
 -- What the pass and the seat of a thread say at its end of what it did.
 use Rattle.std.specs.Prelude.{◌≡◌, ℕ, ◌+◌, ◌≤◌, List, [], ◌∷◌, ◌++◌, map, count_by, Some, slice_get}
+use Rattle.atomic_table.specs.Seated.{TableId}
 use Rattle.claims.specs.declared.seats.Ticket.{Ticket}
 use Rattle.claims.specs.Views.{ClaimsView, WorkerView, EachOnce, is_ticket}
 use Rattle.order.specs.Orders.{order_of, end_of}
@@ -51,18 +52,20 @@ module _ {J : Type 0} (ticket : J → Ticket) where
     pub offered : (h : HandView Reply) → slice_get pass.replies loop_no ≡ Some h → offered_in events ≡ map (λ n. offer_of n.item) h.taken
     pub own : (i : ℕ) (offer : WorkOrder × WorkEnd) → slice_get (offered_in events) i ≡ Some offer → offer.0.loop_no ≡ loop_no
 
-  -- a history of a loop that has ended so, which is tied to its pass, and in which what is found started was handed out before
-  pub record DidEvents (g : Setting) (ending : LoopEnding) (emits : List ℕ) (pass : PassView J) : Type 0 where
+  -- a history of a loop that has ended so, with a seat of these claims, which is tied to its pass, and in which what is found started was
+  -- handed out before
+  pub record DidEvents (claims : TableId) (g : Setting) (ending : LoopEnding) (emits : List ℕ) (pass : PassView J) : Type 0 where
     pub ended : HasEnded thread_calls g ending emits
     pub tied : IsTied g.loop_no pass [] ended.done.events
     pub found : FoundBehind [] (passed_of g ended.done)
+    pub of_claims : ended.now.shared.loop_seat.claims ≡ claims
 
-  pub record LoopEnds (board : BoardView) (g : Setting) (served : Served) (pass : PassView J) : Type 0 where
+  pub record LoopEnds (board : BoardView) (claims : TableId) (g : Setting) (served : Served) (pass : PassView J) : Type 0 where
     pub own : IsPassOf board pass
     pub number : HasNumber (g.loop_no + 1) pass
     pub numbered : served.loop_no ≡ g.loop_no
-    pub did : ∥ DidEvents g served.ending served.emits.items pass ∥₁
+    pub did : ∥ DidEvents claims g served.ending served.emits.items pass ∥₁
 
   -- each loop, counted from 0, has ended so
-  abbrev pub EachLoopEnds : BoardView → (ℕ → Setting) → List Served → List (PassView J) → Type 0
-  EachLoopEnds board setting served passes = EachPair (λ k s p. LoopEnds board (setting k) s p) 0 served passes
+  abbrev pub EachLoopEnds : BoardView → TableId → (ℕ → Setting) → List Served → List (PassView J) → Type 0
+  EachLoopEnds board claims setting served passes = EachPair (λ k s p. LoopEnds board claims (setting k) s p) 0 served passes

@@ -7,9 +7,10 @@ use Rattle.serve.specs.declared.plan.ThreadOfLoop.{ThreadOfLoop}
 use Rattle.serve.specs.declared.plan.ServicePlan.{ServicePlan}
 
 -- that what comes of it is said of the loop of this number
-pub record IsThreadOf {J : Type 0} (plan : ServicePlan) (board : BoardView) (loop_no : ℕ) (promise : ThreadOfLoop J) : Type 0 where
+pub record IsThreadOf {J : Type 0} (plan : ServicePlan) (board : BoardView) (claims : ClaimsView) (loop_no : ℕ) (promise : ThreadOfLoop J) : Type 0 where
   pub plan_is : promise.plan.now ≡ plan
   pub board_is : promise.board.now ≡ board
+  pub claims_are : promise.claims.now ≡ claims
   pub number : promise.loop_no ≡ loop_no
 
 -- or of the worker of this number

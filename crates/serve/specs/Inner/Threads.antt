@@ -1,6 +1,7 @@
 -- What a call on a loop in its thread leaves of it.
-use Rattle.std.specs.Prelude.{◌≡◌, List, Option, option_to_list}
+use Rattle.std.specs.Prelude.{◌≡◌, List, [], Option, Some, None, option_to_list}
 use Rattle.claims.specs.declared.seats.Ticket.{Ticket}
+use Rattle.phases.specs.Outside.{next_order_of}
 use Rattle.serve.specs.declared.loop_thread.LoopThread.{LoopThread}
 use Rattle.serve.specs.declared.record.LoopRecord.{LoopRecord}
 use Rattle.serve.specs.declared.served.LoopEnding.{LoopEnding}
@@ -13,6 +14,15 @@ use Rattle.serve.specs.Inner.Turns.{MayGoOn, EndsOrGoesOn}
 abbrev pub CanGoOn : LoopRecord → Type 0
 CanGoOn r = MayGoOn thread_calls r.core.loop r.ran
 
+-- it has no order that was not handed out
+abbrev pub HandsOutNone : LoopRecord → Type 0
+HandsOutNone r = (next_order_of r.core.loop.state).0 ≡ None
+
+-- the job that comes next, if there is one
+abbrev pub jobs_in : {J : Type 0} → Option (Option J) → List J
+jobs_in None = []
+jobs_in (Some made) = option_to_list made
+
 module _ {J : Type 0} (ticket : J → Ticket) where
   -- a history of the loop, which is tied to its pass and to these jobs, and in which what is found started was handed out before
   pub record HasTied (t : LoopThread J) (kept : List J) : Type 0 where
@@ -24,9 +34,10 @@ module _ {J : Type 0} (ticket : J → Ticket) where
   abbrev pub IsTiedSoFar : LoopThread J → Type 0
   IsTiedSoFar t = ∥ HasTied t (option_to_list t.kept) ∥₁
 
-  -- board and setting stay
+  -- board, claims and setting stay
   pub record Stays (old new : LoopThread J) : Type 0 where
     pub board : new.board ≡ old.board
+    pub claims : new.recorded.core.loop.shared.loop_seat.claims ≡ old.recorded.core.loop.shared.loop_seat.claims
     pub setting : new.recorded.core.setting ≡ old.recorded.core.setting
     pub told : IsTiedSoFar old → IsTiedSoFar new
 

@@ -65,4 +65,4 @@ returns-clause-joint g c =
     let whole = rw items at c.gather_all.ensures.jobs in
     let replies = rw c.requires.loops.0 at (subst (AreRepliesWhole (length c.args.board.now.replies)) items c.gather_all.ensures.replies) in
     jointly g.J.Job.ticket (arc_value plan.linked) plan.serving c.args.board.now c.args.claims.now e.served.items e.loops.items e.workers.items e.seats.items c.requires.loops_end c.requires.workers_end
-    c.gather_seats-crew.result c.requires.loops_count c.requires.workers_count c.gather_seats-crew.ensures.started c.gather_seats-crew.ensures.once whole replies
+    c.gather_seats-crew.result c.gather_seats-crew.ensures.claims c.requires.loops_count c.requires.workers_count c.gather_seats-crew.ensures.started c.gather_seats-crew.ensures.once whole replies

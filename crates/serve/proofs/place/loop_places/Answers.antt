@@ -37,7 +37,7 @@ loop-seat-preserved g c =
       omega arith,
       omega arith,
       down_push _ (length c.args.seats.items) c.loop-seat.places.items c.push.new.self.items c.loop_place.result c.in-Some.seat.loop_no pushed (omega arith)
-          (c.loop_place.ensures.board, same) kept.4,
+          (c.loop_place.ensures.board, c.loop_place.ensures.claims, same) kept.4,
     )
 
 pub loop_place-requires-clause-there : goal.loop_place-requires-clause-there
@@ -55,4 +55,4 @@ returns-clause-each g c =
     let kept = c.loop-seat.invariant in
     let over = c.in_default.ensures.cases in
     let made = kept.3 in
-    subst (λ n. EachDown (λ k p. (p.board.now ≡ c.args.board.now) × (p.seat.loop_no ≡ k)) n c.loop-seat.places.items) (omega arith) kept.4
+    subst (λ n. EachDown (λ k p. (p.board.now ≡ c.args.board.now) × (p.claims.now ≡ c.args.claims.now) × (p.seat.loop_no ≡ k)) n c.loop-seat.places.items) (omega arith) kept.4

@@ -25,12 +25,12 @@ loop-thread-preserved-in-Ok g c =
       omega arith,
       omega arith,
       on_ok_weaker c.loop-thread.ending (λ all. omega (arith, all, shorter, longer)) kept.2,
-      on_ok_weaker c.loop-thread.ending (λ h. from_rest (λ k t. IsThreadOf c.args.plan.now c.args.board.now k t.promise) (length served) (length c.push_reserved.new.self.items) rest thread more split longer h) kept.3,
+      on_ok_weaker c.loop-thread.ending (λ h. from_rest (λ k t. IsThreadOf c.args.plan.now c.args.board.now c.args.claims.now k t.promise) (length served) (length c.push_reserved.new.self.items) rest thread more split longer h) kept.3,
       on_both _ _ _ c.loop-thread.ending
           (λ h done.
-          pair_push (λ k s p. LoopEnds g.J.Job.ticket c.args.board.now (setting_at (arc_value c.args.plan.now.linked) c.args.plan.now.serving k) s p) served passes c.in-Ok.one c.in-Ok.pass
+          pair_push (λ k s p. LoopEnds g.J.Job.ticket c.args.board.now c.args.claims.now.id (setting_at (arc_value c.args.plan.now.linked) c.args.plan.now.serving k) s p) served passes c.in-Ok.one c.in-Ok.pass
           c.push_reserved.new.self.items c.push_reserved-in-Ok.new.self.items first.items second.items done
-          (loop_ended g.J.Job.ticket c.args.plan.now c.args.board.now (length served) thread.promise c.in-Ok.one c.in-Ok.pass
-          (from_first (λ k t. IsThreadOf c.args.plan.now c.args.board.now k t.promise) (length served) rest thread more split h) c.in-Ok.ensures))
+          (loop_ended g.J.Job.ticket c.args.plan.now c.args.board.now c.args.claims.now (length served) thread.promise c.in-Ok.one c.in-Ok.pass
+          (from_first (λ k t. IsThreadOf c.args.plan.now c.args.board.now c.args.claims.now k t.promise) (length served) rest thread more split h) c.in-Ok.ensures))
           kept.3 kept.4,
     )

@@ -7,5 +7,5 @@ invariant-loop-thread g l =
     (length l.served.items + length rest ≤ vec_capacity l.served)
     × (length l.passes.items + length rest ≤ vec_capacity l.passes)
     × OnOk l.ending (length l.served.items + length rest ≡ length l.fn.started.items)
-    × OnOk l.ending (EachFrom (λ k h. IsThreadOf l.plan l.board k h.promise) (length l.served.items) rest)
-    × OnOk l.ending (EachPair (λ k s p. LoopEnds g.J.Job.ticket l.board (setting_at (arc_value l.plan.linked) l.plan.serving k) s p) 0 l.served.items l.passes.items)
+    × OnOk l.ending (EachFrom (λ k h. IsThreadOf l.plan l.board l.claims k h.promise) (length l.served.items) rest)
+    × OnOk l.ending (EachPair (λ k s p. LoopEnds g.J.Job.ticket l.board l.claims.id (setting_at (arc_value l.plan.linked) l.plan.serving k) s p) 0 l.served.items l.passes.items)

@@ -10,7 +10,7 @@ loop-place-preserved g c =
     let places = c.loop-place.places.items in
     let split = c.in-Some.ensures.items in
     let fewer = one_less places c.pop.new.self.items c.in-Some.place split in
-    let known = down_last (λ k p. (p.board.now ≡ c.args.board.now) × (p.seat.loop_no ≡ k)) (length c.args.places.items) (length started) places c.pop.new.self.items c.in-Some.place split kept.1 kept.2 in
+    let known = down_last (λ k p. (p.board.now ≡ c.args.board.now) × (p.claims.now ≡ c.args.claims.now) × (p.seat.loop_no ≡ k)) (length c.args.places.items) (length started) places c.pop.new.self.items c.in-Some.place split kept.1 kept.2 in
     let made = c.in_ok-thread.ensures in
     let pushed = c.push_reserved.ensures.items in
     let longer = longer_by started c.in_ok-thread.thread c.push_reserved.new.self.items pushed in
@@ -19,7 +19,7 @@ loop-place-preserved g c =
     let all = kept.1 in (
       omega arith,
       omega arith,
-      down_front (λ k p. (p.board.now ≡ c.args.board.now) × (p.seat.loop_no ≡ k)) (length c.args.places.items) places c.pop.new.self.items c.in-Some.place split kept.2,
+      down_front (λ k p. (p.board.now ≡ c.args.board.now) × (p.claims.now ≡ c.args.claims.now) × (p.seat.loop_no ≡ k)) (length c.args.places.items) places c.pop.new.self.items c.in-Some.place split kept.2,
       push_at _ started c.in_ok-thread.thread c.push_reserved.new.self.items pushed kept.3
-          (rw (known.0, known.1) at made),
+          (rw (known.0, known.1, known.2) at made),
     )

@@ -1,5 +1,5 @@
 use Rattle.std.proofs.Common.{◌≡◌, None, refl, sym, ◌∙◌}
-use Rattle.serve.proofs.Told.{is_none, stays_asked, stays_less, stays_posted, told_none, told_maybe, told_taken}
+use Rattle.serve.proofs.Told.{hands_out_none, is_none, stays_asked, stays_less, stays_posted, told_none, told_maybe, told_taken}
 use Rattle.serve.proofs.loop_thread.LoopThread.next_job.Goals as goal
 
 pub returns-in-Some-clause-keeps : goal.returns-in-Some-clause-keeps
@@ -49,3 +49,7 @@ returns-clause-told g c =
     let handed = rw c.in-Some-next_order.is at c.next_order.ensures.handed in
     told_maybe g.J.Job.ticket c.args.self.now _ c.next_order.new.self c.in-Some-next_order.order handed c.post.ensures.posts _ refl refl refl none c.take.ensures.after
     c.in_ok-made.ensures.ticket
+
+pub returns-in_default-next_order-clause-over : goal.returns-in_default-next_order-clause-over
+returns-in_default-next_order-clause-over g c asked =
+    hands_out_none c.args.self.now.recorded _ (rw (is_none c.next_order.result c.in_default-next_order.not-Some) at c.next_order.ensures.handed)

@@ -7,9 +7,9 @@ use Rattle.limits.specs.declared.TheConstants.{MAX_REQUESTS, MAX_LOOPS}
 use Rattle.tallies.specs.Requests.{last_in}
 use Rattle.tallies.proofs.Lists.{part_set, part_push, set_apart}
 use Rattle.claims.specs.declared.rule.SeatView.{SeatView}
-use Rattle.claims.specs.Rule.{IsWorker, with_worker, spent_view, seat_of, making_seat, next_making_seat, next_seat, place, of_loop, WordsAreKept, IsClaimed}
+use Rattle.claims.specs.Rule.{IsWorker, IsGathering, with_worker, with_gathering, without_gathering, without_workers, gathering_of, workers_of, spent_view, seat_of, making_seat, next_making_seat, next_seat, place, of_loop, WordsAreKept, IsClaimed}
 use Rattle.claims.specs.Inner.Steps.{with_opened}
-use Rattle.claims.proofs.Moves.{begins, hit, no_list, own, opens, makes_seat, joins_worker}
+use Rattle.claims.proofs.Moves.{begins, hit, no_list, own, opens, makes_seat, joins_worker, joins_gathering, gives_back, gives_up}
 
 no_last : (views : List SeatView) (l slot : ℕ) → (of_loop views l).opened ≡ [] → last_in slot (of_loop views l).opened ≡ 0
 no_last views l slot none = ap (λ cs. last_in slot cs) none
@@ -58,6 +58,37 @@ module _ {loops : ℕ} {words : List ℕ} {views : List SeatView} (claimed : IsC
             λ l far.
             part_set (λ u. u.opened) (set views id (with_worker v o)) other (l + 1) o spent_view (seat_of 0) there (sym idle.opened)
             ∙ part_set (λ u. u.opened) views id (l + 1) v (with_worker v o) (seat_of 0) at refl ∙ claimed.others l far;
+      }
+
+  pub joins_all_claimed : (other : ℕ) (o : SeatView) → ¬ (other ≡ id) → get_elem? (set views id (with_gathering v o)) other ≡ some o → IsGathering o
+      → IsClaimed loops words (set (set views id (with_gathering v o)) other spent_view)
+  joins_all_claimed other o apart there idle =
+      record {
+        kept = joins_gathering claimed.kept id v at other o apart there idle;
+        others =
+            λ l far.
+            part_set (λ u. u.opened) (set views id (with_gathering v o)) other (l + 1) o spent_view (seat_of 0) there (sym idle.opened)
+            ∙ part_set (λ u. u.opened) views id (l + 1) v (with_gathering v o) (seat_of 0) at refl ∙ claimed.others l far;
+      }
+
+  pub gives_back_claimed : 0 < v.made → IsClaimed loops words (set views id (without_gathering v) ++ gathering_of v ∷ [])
+  gives_back_claimed some_made =
+      record {
+        kept = gives_back claimed.kept id v at some_made;
+        others =
+            λ l far.
+            part_push (λ u. u.opened) (set views id (without_gathering v)) (gathering_of v) (seat_of 0) (l + 1) refl
+            ∙ part_set (λ u. u.opened) views id (l + 1) v (without_gathering v) (seat_of 0) at refl ∙ claimed.others l far;
+      }
+
+  pub gives_up_claimed : 0 < v.made → IsClaimed loops words (set views id (without_workers v) ++ workers_of v ∷ [])
+  gives_up_claimed some_made =
+      record {
+        kept = gives_up claimed.kept id v at some_made;
+        others =
+            λ l far.
+            part_push (λ u. u.opened) (set views id (without_workers v)) (workers_of v) (seat_of 0) (l + 1) refl
+            ∙ part_set (λ u. u.opened) views id (l + 1) v (without_workers v) (seat_of 0) at refl ∙ claimed.others l far;
       }
 
 -- the words at first

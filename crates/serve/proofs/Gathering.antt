@@ -2,6 +2,7 @@
 use Rattle.serve.proofs.Words.{All, ap, append-nil, append_assoc, arith, flat_map, flat_map-append, get_or, length, length_push, List, refl, subst, sym, Ticket}
 use Rattle.serve.proofs.Words.{WorkerView, [], ◌++◌, ◌∙◌, ◌∷◌, ◌≡◌}
 use Rattle.std.proofs.lemmas.List.{get_or_push}
+use Rattle.std.proofs.lemmas.List.Elements.{All-push}
 use Rattle.std.proofs.Math.ListN.{get_or-append}
 
 module _ {A : Type 0} (P : A → Type 0) where
@@ -14,6 +15,9 @@ module _ {A : Type 0} (P : A → Type 0) where
   all_last xs ys x e all =
       let size = ap length e ∙ length_push ys x in
       subst P (ap (λ l. get_or l (length ys) x) e ∙ get_or_push ys x x (length ys) refl) (all (length ys) x (omega arith))
+
+  pub all_both : (xs ys : List A) (x : A) → xs ≡ ys ++ x ∷ [] → All P ys → P x → All P xs
+  all_both xs ys x e front last = subst (All P) (sym e) (All-push P ys x front last)
 
 abbrev started : List WorkerView → List Ticket
 started seats = flat_map (λ (s : WorkerView). s.started) seats

@@ -1,5 +1,5 @@
 -- Lists whose elements are numbered in order.
-use Rattle.serve.proofs.Words.{ap, arith, EachFrom, EachPair, Err, length, length_push, List, Ok, OnOk, refl, Result, slice_get, Some, subst, suc, sym, zero, ℕ}
+use Rattle.serve.proofs.Words.{ap, arith, EachFrom, EachPair, EachThree, Err, length, length_push, List, Ok, OnOk, refl, Result, slice_get, Some, subst, suc, sym, zero, ℕ}
 use Rattle.serve.proofs.Words.{[], ◌++◌, ◌+◌, ◌<◌, ◌∙◌, ◌∷◌, ◌≡◌}
 
 module _ {A : Type 0} (P : ℕ → A → Type 0) where
@@ -101,3 +101,38 @@ module _ {A B : Type 0} (R : ℕ → A → B → Type 0) where
   pair_map S f n [] (y ∷ ys) h = absurd h
   pair_map S f n (x ∷ xs) [] h = absurd h
   pair_map S f n (x ∷ xs) (y ∷ ys) h = (f n x y h.0, pair_map S f (suc n) xs ys h.1)
+
+-- three lists
+module _ {A B C : Type 0} (R : ℕ → A → B → C → Type 0) where
+  three_from : (n : ℕ) (xs : List A) (ys : List B) (zs : List C) (x : A) (y : B) (z : C) → EachThree R n xs ys zs → R (n + length xs) x y z → EachThree R n (xs ++ x ∷ []) (ys ++ y ∷ []) (zs ++ z ∷ [])
+  three_from n [] [] [] x y z h last = (subst (λ k. R k x y z) (omega arith) last, tt)
+  three_from n [] [] (c ∷ zs) x y z h last = absurd h
+  three_from n [] (b ∷ ys) zs x y z h last = absurd h
+  three_from n (a ∷ xs) [] zs x y z h last = absurd h
+  three_from n (a ∷ xs) (b ∷ ys) [] x y z h last = absurd h
+  three_from n (a ∷ xs) (b ∷ ys) (c ∷ zs) x y z h last = (h.0, three_from (suc n) xs ys zs x y z h.1 (subst (λ k. R k x y z) (omega arith) last))
+
+  -- one more at the end of each, under its place
+  pub three_push : (xs : List A) (ys : List B) (zs : List C) (x : A) (y : B) (z : C) (us : List A) (vs : List B) (ws : List C) → us ≡ xs ++ x ∷ [] → vs ≡ ys ++ y ∷ [] → ws ≡ zs ++ z ∷ []
+      → EachThree R 0 xs ys zs → R (length xs) x y z → EachThree R 0 us vs ws
+  three_push xs ys zs x y z us vs ws e f g h last =
+      subst (λ us. EachThree R 0 us vs ws) (sym e) (subst (λ vs. EachThree R 0 (xs ++ x ∷ []) vs ws) (sym f) (subst (EachThree R 0 (xs ++ x ∷ []) (ys ++ y ∷ [])) (sym g)
+      (three_from 0 xs ys zs x y z h (subst (λ k. R k x y z) (omega arith) last))))
+
+  -- what is so of each third
+  pub thirds : (P : ℕ → C → Type 0) → ((k : ℕ) (x : A) (y : B) (z : C) → R k x y z → P k z) → (n : ℕ) (xs : List A) (ys : List B) (zs : List C) → EachThree R n xs ys zs → EachFrom P n zs
+  thirds P f n [] [] [] h = tt
+  thirds P f n [] [] (z ∷ zs) h = absurd h
+  thirds P f n [] (y ∷ ys) zs h = absurd h
+  thirds P f n (x ∷ xs) [] zs h = absurd h
+  thirds P f n (x ∷ xs) (y ∷ ys) [] h = absurd h
+  thirds P f n (x ∷ xs) (y ∷ ys) (z ∷ zs) h = (f n x y z h.0, thirds P f (suc n) xs ys zs h.1)
+
+  -- the first two, where of each third something is known
+  pub with_thirds : (P : ℕ → C → Type 0) → (n : ℕ) (xs : List A) (ys : List B) (zs : List C) → EachThree R n xs ys zs → EachFrom P n zs → EachPair (λ k x y. (z : C) × P k z × R k x y z) n xs ys
+  with_thirds P n [] [] [] h known = tt
+  with_thirds P n [] [] (z ∷ zs) h known = absurd h
+  with_thirds P n [] (y ∷ ys) zs h known = absurd h
+  with_thirds P n (x ∷ xs) [] zs h known = absurd h
+  with_thirds P n (x ∷ xs) (y ∷ ys) [] h known = absurd h
+  with_thirds P n (x ∷ xs) (y ∷ ys) (z ∷ zs) h known = ((z, known.0, h.0), with_thirds P (suc n) xs ys zs h.1 known.1)

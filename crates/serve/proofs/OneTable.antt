@@ -1,7 +1,7 @@
--- No call of a loop's moves its seat to other claims.
+-- No call of a loop's moves its seat to other claims, or joins a worker's to it.
 use Rattle.serve.proofs.Words.{Anyhow, ap, Bool, CancelAnswered, ClockRaised, cond, EndOffered, Event, EventStep, false, GuestCall, inl, inr, IsByThread}
 use Rattle.serve.proofs.Words.{IsMirrored, List, Loop, LoopRecord, LoopView, MovedBeside, MovesAlone, option_map, Order, order_of, OrderAsked, PostsNone, RecordHandsOut, RecordPosts}
-use Rattle.serve.proofs.Words.{refl, RequestAnswered, Seats, Setting, Some, step_mirrors, StepDid, Stepped, subst, sym, thread_calls, ThreadHistory, true, ℕ}
+use Rattle.serve.proofs.Words.{refl, RequestAnswered, Seats, Setting, Some, step_mirrors, StepDid, Stepped, subst, sym, thread_calls, ThreadHistory, Ticket, true, ℕ}
 use Rattle.serve.proofs.Words.{[], ◌++◌, ◌∙◌, ◌∷◌, ◌≡◌, ◌⊎◌}
 use Rattle.atomic_table.specs.Seated.{TableId}
 use Rattle.tallies.specs.Requests.{is_pending}
@@ -11,21 +11,25 @@ use Rattle.pool.specs.Share.{TriesToCancel}
 use Rattle.serve.proofs.PostsBehind.{first_none}
 use Rattle.serve.proofs.SentAlone.{nothing_known}
 
-abbrev pub claims_of : LoopRecord → TableId
-claims_of r = r.core.loop.shared.loop_seat.claims
+-- the claims of a seat, and what was joined to it
+abbrev pub table_of : LoopView → TableId × List Ticket
+table_of seat = (seat.claims, seat.joined)
 
-module _ (claims : TableId) where
+abbrev pub claims_of : LoopRecord → TableId × List Ticket
+claims_of r = table_of r.core.loop.shared.loop_seat
+
+module _ (claims : TableId × List Ticket) where
   abbrev IsOf : LoopView → Type 0
-  IsOf seat = seat.claims ≡ claims
+  IsOf seat = table_of seat ≡ claims
 
   cancelled : (old new : LoopView) (c : ℕ × ℕ) (answer : Bool) → TriesToCancel old new c answer → IsOf old → IsOf new
-  cancelled old new c true h was = ap (λ (v : LoopView). v.claims) h.0 ∙ was
-  cancelled old new c false h was = ap (λ (v : LoopView). v.claims) h.0 ∙ by (is_pending old.opened old.cancelled c)
+  cancelled old new c true h was = ap table_of h.0 ∙ was
+  cancelled old new c false h was = ap table_of h.0 ∙ by (is_pending old.opened old.cancelled c)
     where
       noted : LoopView
       noted = record old { found_started = old.found_started ++ c ∷ [] }
 
-      by : (b : Bool) → (cond b noted old).claims ≡ claims
+      by : (b : Bool) → table_of (cond b noted old) ≡ claims
       by true = was
       by false = was
 
@@ -34,7 +38,7 @@ module _ (claims : TableId) where
 
   kept : IsMirrored thread_calls nothing_known Anyhow Stays
   kept = record {
-    opens = λ s s' t slot request was h. (tt, tt, ap (λ (v : LoopView). v.claims) h.0 ∙ was);
+    opens = λ s s' t slot request was h. (tt, tt, ap table_of h.0 ∙ was);
     cancels = λ s s' t slot request won was h. (tt, tt, cancelled s.loop_seat s'.loop_seat (slot, request) won h.0 was);
     sends = λ s s' t a ok was h. (tt, tt, subst IsOf (sym h.1) was);
     takes = λ s s' t a n there was h. (tt, tt, subst IsOf (sym h.1) was);
@@ -71,9 +75,9 @@ pub alone_claims : (old new : LoopRecord) → MovesAlone old new → claims_of n
 alone_claims old new moves = unposted_claims old new moves.events moves.unposted moves.moves.history
 
 -- an order is handed out, and then its request is posted
-posted_claims : (old new : LoopView) (c : ℕ × ℕ) → PostsSlot old new c ⊎ (new ≡ old) → new.claims ≡ old.claims
-posted_claims old new c (inl h) = ap (λ (v : LoopView). v.claims) h
-posted_claims old new c (inr h) = ap (λ (v : LoopView). v.claims) h
+posted_claims : (old new : LoopView) (c : ℕ × ℕ) → PostsSlot old new c ⊎ (new ≡ old) → table_of new ≡ table_of old
+posted_claims old new c (inl h) = ap table_of h
+posted_claims old new c (inr h) = ap table_of h
 
 pub handed_claims : (old mid new : LoopRecord) (order : Order) → RecordHandsOut old (Some order) mid → RecordPosts mid (order.slot, order.request) new → claims_of new ≡ claims_of old
 handed_claims old mid new order handed posts =

@@ -1,11 +1,11 @@
 -- What passes and seats say of all loops and all workers, once all were taken in.
 use Rattle.serve.proofs.Words.{ap, append-nil, AreHandsOf, AreRepliesWhole, arith, asks, Bool, cond, count_by, count_cons, DidEvents, DidTurns, EachOnce}
-use Rattle.serve.proofs.Words.{EachPair, end_of, EndOffered, Event, false, flat_map, FoundBehind, HandView, HasEnded, inl, inr, is_ticket, IsTied, IsWhole}
+use Rattle.serve.proofs.Words.{EachPair, end_of, EndOffered, Event, false, flat_map, FoundBehind, HandView, HasEnded, inl, inr, is_ticket, IsSettled, IsTied, IsWhole, LoopView}
 use Rattle.serve.proofs.Words.{JointRun, length, List, Loaded, map, Named, offer_of, offered_in, order_of, passed_of, PassView, Put, put_for, refl, Reply}
 use Rattle.serve.proofs.Words.{same_Some, Served, Serving, setting_at, slice_get, Some, started_by, subst, suc, sym, thread_calls, Ticket, true, Turn, WorkEnd}
 use Rattle.serve.proofs.Words.{WorkerView, WorkOrder, zero, ℕ, [], ∥∥₁_map₂, ◌++◌, ◌+◌, ◌<◌, ◌==◌, ◌∙◌, ◌∷◌, ◌≡◌, ◌≤◌, ◌⊎◌}
 use Rattle.atomic_table.specs.Seated.{TableId}
-use Rattle.serve.specs.Joint.{IsPut, puts, is_offered, ticket_for, times_in}
+use Rattle.serve.specs.Joint.{AreOneClaims, IsPut, puts, is_offered, ticket_for, times_in}
 use Rattle.serve.proofs.JointCounts.{Pairs, count_map, PostsWithin, TakesThese, PutsNone, PutsThese, taken_within, offered_within}
 use Rattle.serve.proofs.Lookups.{not_there, is_within, front_at, split_at, by_index, to_index, map_at, map_back}
 
@@ -112,8 +112,10 @@ module _ {J : Type 0} (passes : List (PassView J)) (k : ℕ) (hands : List (Hand
       (back.0, back.1, back.2)
 
 module _ {J : Type 0} (ticket : J → Ticket) (loaded : Loaded) (serving : Serving) (claims : TableId) where
-  abbrev DidLoop : ℕ → Served → PassView J → Type 0
-  DidLoop k s p = DidEvents ticket claims (setting_at loaded serving k) s.ending s.emits.items p
+  -- what a loop of this number did, with a seat of these claims, which is settled with what workers have started
+  abbrev pub EndedWith : (started : List Ticket) → ℕ → Served → PassView J → Type 0
+  EndedWith started k s p =
+      (seat : LoopView) × DidEvents ticket (setting_at loaded serving k) s.ending s.emits.items p seat × (seat.claims ≡ claims) × IsSettled (record seat { joined = started })
 
   abbrev DidWorker : ℕ → PassView J → WorkerView → Type 0
   DidWorker w p seat = DidTurns ticket p seat
@@ -122,9 +124,12 @@ module _ {J : Type 0} (ticket : J → Ticket) (loaded : Loaded) (serving : Servi
       (own_crew : crew.claims ≡ claims) (few : length served ≡ serving.loops) (crew_size : length wp ≡ serving.workers)
       (started : crew.started ≡ flat_map (λ s. s.started) seats) (once : EachOnce crew.started)
       (jobs : IsWhole (map (λ p. p.jobs) (lp ++ wp))) (replies : AreRepliesWhole serving.loops (lp ++ wp))
-      (ls : EachPair DidLoop 0 served lp) (ws : EachPair DidWorker 0 wp seats) where
+      (ls : EachPair (EndedWith crew.started) 0 served lp) (ws : EachPair DidWorker 0 wp seats) where
+    abbrev DidLoop : ℕ → Served → PassView J → Type 0
+    DidLoop = EndedWith crew.started
+
     abbrev events_of : (k : ℕ) (s : Served) (p : PassView J) → DidLoop k s p → List Event
-    events_of k s p d = d.ended.done.events
+    events_of k s p d = d.1.ended.done.events
 
     abbrev turns_of : (w : ℕ) (p : PassView J) (s : WorkerView) → DidWorker w p s → List Turn
     turns_of w p s d = d.turns
@@ -145,7 +150,7 @@ module _ {J : Type 0} (ticket : J → Ticket) (loaded : Loaded) (serving : Servi
     posted_alone t p events h = rw (append-nil p.jobs.given) at h
 
     none_put : Pairs PutsNone lp loops
-    none_put = with_seconds DidLoop events_of PutsNone (λ k s p d. d.tied.put) 0 served lp ls
+    none_put = with_seconds DidLoop events_of PutsNone (λ k s p d. d.1.tied.put) 0 served lp ls
 
     these_put : Pairs PutsThese wp workers
     these_put = with_firsts DidWorker turns_of PutsThese (λ w p s d. d.put) 0 wp seats ws
@@ -165,7 +170,7 @@ module _ {J : Type 0} (ticket : J → Ticket) (loaded : Loaded) (serving : Servi
         record {
           pass = f.0.y;
           at = f.0.second;
-          tied = subst (IsTied ticket k f.0.y []) f.0.is (rw place at f.0.known.tied);
+          tied = subst (IsTied ticket k f.0.y []) f.0.is (rw place at f.0.known.1.tied);
           below = omega arith;
         }
 
@@ -173,14 +178,17 @@ module _ {J : Type 0} (ticket : J → Ticket) (loaded : Loaded) (serving : Servi
     abbrev DoesAt : (k : ℕ) (s : Served) (events : List Event) → Type 0
     DoesAt k s events =
         (ended : HasEnded thread_calls (setting_at loaded serving k) s.ending s.emits.items) × (ended.done.events ≡ events)
-        × FoundBehind [] (passed_of (setting_at loaded serving k) ended.done) × (ended.now.shared.loop_seat.claims ≡ crew.claims)
+        × FoundBehind [] (passed_of (setting_at loaded serving k) ended.done) × AreOneClaims ended.now.shared.loop_seat crew
+
+    one_table : (q seat : LoopView) → seat ≡ q → q.claims ≡ claims → IsSettled (record q { joined = crew.started }) → AreOneClaims seat crew
+    one_table q seat is of settled = subst (λ x. AreOneClaims x crew) (sym is) (record { claims = of ∙ sym own_crew; settled = settled })
 
     does_at : (k : ℕ) (s : Served) (events : List Event) → slice_get served k ≡ Some s → slice_get loops k ≡ Some events → DoesAt k s events
     does_at k s events at e =
         let f = found DidLoop events_of 0 k served lp ls events e in
         let same : f.0.x ≡ s = same_Some f.0.x s (sym f.0.first ∙ at) in
         subst (λ n. DoesAt n s events) (let p = f.1 in omega arith)
-        (subst (λ x. DoesAt f.0.place x events) same (f.0.known.ended, f.0.is, f.0.known.found, f.0.known.of_claims ∙ sym own_crew))
+        (subst (λ x. DoesAt f.0.place x events) same (f.0.known.1.ended, f.0.is, f.0.known.1.found, one_table f.0.known.0 f.0.known.1.ended.now.shared.loop_seat f.0.known.1.with_seat f.0.known.2 f.0.known.3))
 
     offered : (k : ℕ) (events : List Event) → slice_get loops k ≡ Some events → (t : Ticket) → count_by (is_offered t) events ≤ times_in (puts t) workers
     offered k events e t =
@@ -231,7 +239,7 @@ module _ {J : Type 0} (ticket : J → Ticket) (loaded : Loaded) (serving : Servi
       started = started ∙ seats_started 0 wp seats ws;
       once = once;
       taken = λ t. taken_within ticket t lp wp loops workers
-          (with_seconds DidLoop events_of (PostsWithin ticket t) (λ k s p d. posted_alone t p d.ended.done.events (d.tied.posted t)) 0 served lp ls)
+          (with_seconds DidLoop events_of (PostsWithin ticket t) (λ k s p d. posted_alone t p d.1.ended.done.events (d.1.tied.posted t)) 0 served lp ls)
           (with_firsts DidWorker turns_of (TakesThese ticket t) (λ w p s d. (d.taken, d.posted)) 0 wp seats ws) jobs;
       offered = offered;
       same = same;

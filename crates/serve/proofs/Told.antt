@@ -6,6 +6,7 @@ use Rattle.serve.proofs.Words.{OrderAsked, Posts, PostsAmong, RecordHandsOut, Re
 use Rattle.serve.proofs.Words.{ThreadStep, Ticket, ticket_of, [], ∥∥₁_map, ◌++◌, ◌∙◌, ◌∷◌, ◌≡◌, ◌≢◌}
 use Rattle.std.specs.Prelude.{IfSome, IfNone}
 use Rattle.serve.specs.Inner.Posts.{IsBehind}
+use Rattle.atomic_table.specs.Seated.{TableId}
 use Rattle.phases.specs.Host.{with_requests}
 use Rattle.phases.specs.Outside.{handing, next_order_of}
 use Rattle.phases.specs.Requests.{lowest_open, Requests}
@@ -94,7 +95,8 @@ module _ {J : Type 0} (ticket : J → Ticket) (old new : LoopThread J) where
       → (events : List Event) → offered_in events ≡ [] → MovesBy old.recorded events new.recorded → GoesBehind old.recorded new.recorded events → Stays ticket old new
   stays_quiet board claims number pass kept events none moves goes = record {
     board = board;
-    claims = claims;
+    claims = ap (λ (x : TableId × List Ticket). x.0) claims;
+    joined = ap (λ (x : TableId × List Ticket). x.1) claims;
     setting = moves.setting;
     told = told_more (option_to_list old.kept) (option_to_list new.kept) events moves goes
         (λ was tied.
@@ -120,7 +122,8 @@ module _ {J : Type 0} (ticket : J → Ticket) (old new : LoopThread J) where
       let e : List Event = EndOffered (order_of reply.order) (end_of reply.outcome) offered.0 ∷ [] in
       record {
         board = board;
-        claims = unposted_claims old.recorded new.recorded e tt offered.1.history;
+        claims = ap (λ (x : TableId × List Ticket). x.0) (unposted_claims old.recorded new.recorded e tt offered.1.history);
+        joined = ap (λ (x : TableId × List Ticket). x.1) (unposted_claims old.recorded new.recorded e tt offered.1.history);
         setting = offered.1.setting;
         told = told_more (option_to_list old.kept) (option_to_list new.kept) e offered.1 (goes_unposted old.recorded new.recorded e tt)
             (λ was tied.
@@ -178,7 +181,8 @@ module _ {J : Type 0} (ticket : J → Ticket) (old new : LoopThread J) where
   pub stays_less : new.board ≡ old.board → new.loop_no ≡ old.loop_no → new.pass ≡ old.pass → new.recorded ≡ old.recorded → new.kept ≡ None → Stays ticket old new
   stays_less board number pass same none = record {
     board = board;
-    claims = ap claims_of same;
+    claims = ap (λ (x : TableId × List Ticket). x.0) (ap claims_of same);
+    joined = ap (λ (x : TableId × List Ticket). x.1) (ap claims_of same);
     setting = ap (λ (r : LoopRecord). r.core.setting) same;
     told = told_still (option_to_list old.kept) (option_to_list new.kept) same
         (λ was tied.
@@ -202,7 +206,7 @@ module _ {J : Type 0} (ticket : J → Ticket) (old new : LoopThread J) where
 
 module _ {J : Type 0} (ticket : J → Ticket) where
   pub stays_then : (a b c : LoopThread J) → Stays ticket a b → Stays ticket b c → Stays ticket a c
-  stays_then a b c h rest = record { board = rest.board ∙ h.board; claims = rest.claims ∙ h.claims; setting = rest.setting ∙ h.setting; told = λ t. rest.told (h.told t) }
+  stays_then a b c h rest = record { board = rest.board ∙ h.board; claims = rest.claims ∙ h.claims; joined = rest.joined ∙ h.joined; setting = rest.setting ∙ h.setting; told = λ t. rest.told (h.told t) }
 
   pub keeps_then : (a b c : LoopThread J) → KeepsGoing ticket a b → KeepsGoing ticket b c → KeepsGoing ticket a c
   keeps_then a b c h rest = (stays_then a b c h.0 rest.0, λ goes. rest.1 (h.1 goes))
@@ -212,7 +216,8 @@ module _ {J : Type 0} (ticket : J → Ticket) where
       → (∥ HasTied ticket b (job ∷ []) ∥₁ → IsTiedSoFar ticket c) → Stays ticket a c
   stays_with a b c job h made board same told = record {
     board = board ∙ h.board;
-    claims = ap claims_of same ∙ h.claims;
+    claims = ap (λ (x : TableId × List Ticket). x.0) (ap claims_of same) ∙ h.claims;
+    joined = ap (λ (x : TableId × List Ticket). x.1) (ap claims_of same) ∙ h.joined;
     setting = ap (λ (r : LoopRecord). r.core.setting) same ∙ h.setting;
     told = λ t. told (made t);
   }

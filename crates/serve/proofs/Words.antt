@@ -3,7 +3,7 @@ pub use Rattle.board.specs.Boards.{AreHandsOf, AreNumbered, AreRepliesWhole, Boa
 pub use Rattle.board.specs.Jobs.{ticket_of}
 pub use Rattle.board.specs.Views.{HandView, IsWhole}
 pub use Rattle.board.specs.declared.line.Named.{Named}
-pub use Rattle.claims.specs.Views.{ClaimsView, EachOnce, is_ticket, LoopView, new_loop_view, new_worker_view, WorkerView}
+pub use Rattle.claims.specs.Views.{ClaimsView, EachOnce, IsSettled, is_ticket, LoopView, new_loop_view, new_worker_view, WorkerView}
 pub use Rattle.claims.specs.declared.seats.Ticket.{Ticket}
 pub use Rattle.events.specs.declared.did.StepDid.{StepDid}
 pub use Rattle.events.specs.declared.ended.Ended.{Ended}
@@ -37,7 +37,7 @@ pub use Rattle.serve.specs.Histories.{EndsBy, HasDone, HasEnded, IsByThread, set
 pub use Rattle.serve.specs.Inner.Alone.{IsAlone}
 pub use Rattle.serve.specs.Inner.Ends.{DidEvents, DidTurns, IsTied, LoopEnds, offer_of, offered_in, WorkerEnds}
 pub use Rattle.serve.specs.Inner.Moves.{IsOffered, MovesAlone, MovesBy, RecordHandsOut, RecordPosts}
-pub use Rattle.serve.specs.Inner.Places.{EachDown, EachFrom, EachPair, IsPassAt}
+pub use Rattle.serve.specs.Inner.Places.{EachDown, EachFrom, EachPair, EachThree, IsPassAt}
 pub use Rattle.serve.specs.Inner.Posts.{handed_out, PostsAmong, PostsNone}
 pub use Rattle.serve.specs.Inner.Promises.{IsThreadOf, IsWorkerThreadOf}
 pub use Rattle.serve.specs.Inner.Threads.{HasTied, IsTiedSoFar}

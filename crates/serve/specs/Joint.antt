@@ -2,7 +2,7 @@
 use Rattle.std.specs.Prelude.{◌≡◌, ℕ, ◌≤◌, Bool, false, List, [], length, flat_map, count_by, sum_by, Some, slice_get}
 use Rattle.syntax.specs.Loaded.{Loaded}
 use Rattle.claims.specs.declared.seats.Ticket.{Ticket}
-use Rattle.claims.specs.Views.{WorkerView, EachOnce, is_ticket}
+use Rattle.claims.specs.Views.{LoopView, WorkerView, EachOnce, IsSettled, is_ticket}
 use Rattle.order.specs.Orders.{order_of, end_of}
 use Rattle.order.specs.Work.{WorkOrder, WorkEnd}
 use Rattle.order.specs.declared.reply.Reply.{Reply}
@@ -45,10 +45,16 @@ IsPut workers o end =
     (w j : ℕ) × (turns : List Turn) × (reply : Reply) × (slice_get workers w ≡ Some turns) × (slice_get turns j ≡ Some (Put reply))
     × (order_of reply.order ≡ o) × (end_of reply.outcome ≡ end)
 
+-- A loop's seat and the crew's are of one table of claims. As the loop has joined no worker's seat, what it knows with the crew's is
+-- settled: each request was started once at most, having been posted, or cancelled, and never both.
+pub record AreOneClaims (seat : LoopView) (crew : WorkerView) : Type 0 where
+  pub claims : seat.claims ≡ crew.claims
+  pub settled : IsSettled (record seat { joined = crew.started })
+
 -- There are a history of each loop, which its answer reports, and in which the loop has found started only what it had handed out
 -- before; and the turns of each worker, in order, which started just what the crew's seats have started, worker by worker: each
--- ticket once. The seat with which a loop has ended is of the same claims as the crew's: what a loop cancels, and what a worker starts,
--- are words of one table. Of every ticket workers took, all together, at most as many jobs as its order was handed out. Of every ticket a loop
+-- ticket once. The seat with which a loop has ended is of the same claims as the crew's: what it cancelled no worker started, and what a
+-- worker started of its requests it had posted. Of every ticket workers took, all together, at most as many jobs as its order was handed out. Of every ticket a loop
 -- was offered at most as many replies as workers put, all together; each is to a request of its own, and in all fields one that a
 -- worker put.
 pub record JointRun (loaded : Loaded) (serving : Serving) (served : List Served) (crew : WorkerView) : Type 0 where
@@ -60,7 +66,7 @@ pub record JointRun (loaded : Loaded) (serving : Serving) (served : List Served)
       → (ended : HasEnded thread_calls (setting_at loaded serving k) s.ending s.emits.items) × (ended.done.events ≡ events)
       × FoundBehind [] (passed_of (setting_at loaded serving k) ended.done)
   pub own : (k : ℕ) (s : Served) (events : List Event) (at : slice_get served k ≡ Some s) (did : slice_get loops k ≡ Some events)
-      → (each k s events at did).0.now.shared.loop_seat.claims ≡ crew.claims
+      → AreOneClaims (each k s events at did).0.now.shared.loop_seat crew
   pub started : crew.started ≡ flat_map started_by workers
   pub once : EachOnce crew.started
   pub taken : (t : Ticket) → times_in (takes t) workers ≤ times_in (asks t) loops

@@ -2,8 +2,8 @@
 
 ghost use Rattle.std.specs.Prelude.{◌≡◌, ◌<◌, ◌≤◌, ◌+◌, [], All, flat_map, length, vec_capacity, IfOk, OnOk};
 ghost use Rattle.std.specs.Thread.{IsSync};
-ghost use Rattle.claims.specs.Views.{EachOnce};
-ghost use Rattle.serve.specs.Inner.Ends.{WorkerEnds};
+ghost use Rattle.claims.specs.Views.{EachOnce, IsSettled, new_worker_view};
+ghost use Rattle.serve.specs.Inner.Ends.{IsUnjoined, WorkerEnds};
 ghost use Rattle.serve.specs.Inner.Places.{EachFrom, EachDown, EachPair};
 ghost use Rattle.serve.specs.Inner.Promises.{IsWorkerThreadOf};
 
@@ -12,7 +12,7 @@ use crate::place::WorkerPlace;
 use crate::service::Service;
 use crate::watch::Watch;
 use board::{Board, Pass};
-use claims::{Claims, WorkerSeat};
+use claims::{Claims, Gathering, LoopSeat, WorkerSeat};
 use std::alloc::AllocError;
 use std::sync::Wait;
 use std::thread::{Promise, PromisedHandle, Scope, Threads};
@@ -122,4 +122,25 @@ pub fn gather_seats(claims: &Claims, mut seats: Vec<WorkerSeat>) -> WorkerSeat
         crew = seat;
     }
     crew
+}
+
+/// Shows each loop what the workers have started, and gives their seat back.
+pub fn settle_loops(
+    claims: &Claims,
+    mut gathering: Gathering,
+    crew: WorkerSeat,
+    mut seats: Vec<LoopSeat>,
+) -> WorkerSeat
+    requires gathering { gathering ≡ new_worker_view claims.now.id 0 }
+    requires crew { crew.claims ≡ claims.now.id }
+    requires own { All (λ s. IsUnjoined claims.now.id s) seats.items }
+    ensures claims { result.claims ≡ claims.now.id }
+    ensures started { result.started ≡ crew.started }
+    ensures settled { All (λ s. IsSettled (record s { joined = crew.started })) seats.items }
+{
+    claims.take(&mut gathering, crew);
+    while let Some(mut seat) = seats.pop() {
+        gathering = claims.settle(gathering, &mut seat);
+    }
+    claims.crew(gathering)
 }

@@ -2,15 +2,15 @@
 
 ghost use Rattle.std.specs.Prelude.{◌≡◌, ◌+◌, length, IfOk};
 ghost use Rattle.std.specs.Arc.{arc_value};
-ghost use Rattle.claims.specs.Views.{AreNewLoops, AreNewWorkers};
+ghost use Rattle.claims.specs.Views.{AreNewLoops, AreNewWorkers, new_worker_view};
 ghost use Rattle.board.specs.Boards.{IsNewGathering};
 ghost use Rattle.serve.specs.Answers.{EachServed};
 ghost use Rattle.serve.specs.Histories.{setting_at};
 ghost use Rattle.serve.specs.Inner.Ends.{LoopEnds, WorkerEnds};
-ghost use Rattle.serve.specs.Inner.Places.{EachPair};
+ghost use Rattle.serve.specs.Inner.Places.{EachPair, EachThree};
 ghost use Rattle.serve.specs.Joint.{JointRun};
 
-use crate::crew::gather_seats;
+use crate::crew::{gather_seats, settle_loops};
 use crate::job::Job;
 use crate::place::places;
 use crate::plan::ServicePlan;
@@ -126,12 +126,13 @@ fn with_claims<
     ensures each { IfOk result (λ all. EachServed (arc_value plan.now.linked) plan.now.serving all.served.items) }
     ensures joint { IfOk result (λ all. ∥ JointRun (arc_value plan.now.linked) plan.now.serving all.served.items all.crew ∥₁) }
 {
+    let (new, crew) = Claims::with_gathering(plan.alloc, plan.serving.loops, plan.serving.workers)?;
     let NewClaims {
         claims,
         loop_seats,
         worker_seats,
-    } = Claims::new(plan.alloc, plan.serving.loops, plan.serving.workers)?;
-    with_board(service, plan, &claims, loop_seats, worker_seats)
+    } = new;
+    with_board(service, plan, &claims, crew, loop_seats, worker_seats)
 }
 
 /// With a board too.
@@ -144,11 +145,13 @@ fn with_board<
     service: &Service<'_, R, M, W>,
     plan: &ServicePlan,
     claims: &Claims,
+    crew: claims::Gathering,
     loop_seats: Vec<LoopSeat>,
     worker_seats: Vec<WorkerSeat>,
 ) -> Result<JointlyServed, AllocError>
     requires make { M.IsAlwaysCallable service.now.make.now }
     requires claims { claims.now.loops ≡ plan.now.serving.loops }
+    requires crew { crew ≡ new_worker_view claims.now.id 0 }
     requires loop_seats { AreNewLoops claims.now.id plan.now.serving.loops loop_seats.items }
     requires worker_seats { AreNewWorkers claims.now.id plan.now.serving.workers worker_seats.items }
     ensures count { IfOk result (λ all. length all.served.items ≡ plan.now.serving.loops) }
@@ -159,7 +162,7 @@ fn with_board<
     let (board, passes, gathering) = Board::with_gathering(plan.alloc, plan.serving.loops, count)?;
     let (workers, loops) = places(plan.alloc, &board, passes, claims, worker_seats, loop_seats)?;
     let ended = run_all(service, plan, &board, claims, workers, loops)?;
-    gathered(plan, &board, claims, gathering, ended)
+    gathered(plan, &board, claims, gathering, crew, ended)
 }
 
 /// Takes in all passes and all seats, in the order of their numbers.
@@ -168,12 +171,14 @@ fn gathered<J: Job>(
     board: &Board<J>,
     claims: &Claims,
     gathering: Gathering<J>,
+    crew: claims::Gathering,
     ended: ThreadsEnded<J>,
 ) -> Result<JointlyServed, AllocError>
     requires loops { (length board.now.replies ≡ plan.now.serving.loops) × (claims.now.loops ≡ plan.now.serving.loops) }
     requires gathering { IsNewGathering board.now (plan.now.serving.loops + plan.now.serving.workers) gathering }
+    requires crew { crew ≡ new_worker_view claims.now.id 0 }
     requires loops_count { length ended.served.items ≡ plan.now.serving.loops }
-    requires loops_end { EachPair (λ k s p. LoopEnds J.ticket board.now claims.now.id (setting_at (arc_value plan.now.linked) plan.now.serving k) s p) 0 ended.served.items ended.loops.items }
+    requires loops_end { EachThree (λ k s p q. LoopEnds J.ticket board.now claims.now.id (setting_at (arc_value plan.now.linked) plan.now.serving k) s p q) 0 ended.served.items ended.loops.items ended.loop_seats.items }
     requires workers_count { length ended.workers.items ≡ plan.now.serving.workers }
     requires workers_end { EachPair (WorkerEnds J.ticket board.now claims.now) 0 ended.workers.items ended.seats.items }
     ensures count { IfOk result (λ all. length all.served.items ≡ plan.now.serving.loops) }
@@ -183,11 +188,12 @@ fn gathered<J: Job>(
     let ThreadsEnded {
         served,
         loops: mut passes,
+        loop_seats,
         mut workers,
         seats,
     } = ended;
     passes.append(&mut workers)?;
     board.gather_all(gathering, passes);
-    let crew = gather_seats(claims, seats);
+    let crew = settle_loops(claims, crew, gather_seats(claims, seats), loop_seats);
     Ok(JointlyServed { served, crew })
 }

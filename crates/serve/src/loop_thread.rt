@@ -7,12 +7,14 @@ ghost use Rattle.board.specs.Boards.{IsPassOf, HasNumber};
 use crate::account::Account;
 use crate::job::Job;
 use crate::place::LoopPlace;
+use crate::plan::LoopResult;
 use crate::record::LoopRecord;
 use crate::served::{LoopEnding, Served};
 use crate::service::Serves;
 use crate::serving::Serving;
 use crate::watch::Watch;
 use board::{Board, Event, Heard, Pass};
+use claims::LoopSeat;
 use imports::Linked;
 use marks::{Marks, TakeSeat};
 use phases::LoopCore;
@@ -36,7 +38,7 @@ pub struct LoopThread<'a, J> {
 }
 
 impl<'a, J: Job> LoopThread<'a, J> {
-    ghost use Rattle.std.specs.Prelude.{◌≡◌, ◌<◌, Some, None, length, IfOk, IfSome, OnOk};
+    ghost use Rattle.std.specs.Prelude.{◌≡◌, ◌<◌, Some, None, [], length, IfOk, IfSome, OnOk};
     ghost use Rattle.std.specs.Arc.{arc_value};
     ghost use Rattle.board.specs.Boards.{IsEventOf};
     ghost use Rattle.marks.specs.Counts.{new_taker};
@@ -59,6 +61,7 @@ impl<'a, J: Job> LoopThread<'a, J> {
         requires { taker ≡ new_taker marks.now 0 }
         ensures board { IfOk result (λ t. t.board ≡ place.entry.board) }
         ensures claims { IfOk result (λ t. t.recorded.core.loop.shared.loop_seat.claims ≡ place.entry.claims.now.id) }
+        ensures alone { IfOk result (λ t. t.recorded.core.loop.shared.loop_seat.joined ≡ []) }
         ensures told { IfOk result (λ t. IsTiedSoFar J.ticket t) }
         ensures setting { IfOk result (λ t. t.recorded.core.setting ≡ setting_at (arc_value linked) serving place.entry.seat.loop_no) }
         ensures goes { IfOk result (λ t. CanGoOn t.recorded) }
@@ -90,25 +93,27 @@ impl<'a, J: Job> LoopThread<'a, J> {
         })
     }
 
-    /// Takes turns until the loop has ended. What it did, with its pass.
-    pub fn run<S: Serves<J>>(mut self, service: &S) -> Result<(Served, Pass<J>), AllocError>
+    /// Takes turns until the loop has ended. What it did, with its pass and its seat.
+    pub fn run<S: Serves<J>>(mut self, service: &S) -> LoopResult<J>
         requires ready { S.ready service.now }
         requires goes { CanGoOn self.recorded }
         requires told { IsTiedSoFar J.ticket self }
-        ensures { IfOk result (λ r. LoopEnds J.ticket self.entry.board.now self.entry.recorded.core.loop.shared.loop_seat.claims self.entry.recorded.core.setting r.0 r.1) }
+        requires alone { self.recorded.core.loop.shared.loop_seat.joined ≡ [] }
+        ensures { IfOk result (λ r. LoopEnds J.ticket self.entry.board.now self.entry.recorded.core.loop.shared.loop_seat.claims self.entry.recorded.core.setting r.0 r.1 r.2) }
     {
         let ending = self.until_ended(service)?;
         Ok(self.into_served(ending))
     }
 
     /// What the loop has done, and how it ended.
-    fn into_served(self, ending: LoopEnding) -> (Served, Pass<J>)
+    fn into_served(self, ending: LoopEnding) -> (Served, Pass<J>, LoopSeat)
         requires ends { EndsBy thread_calls ending self.recorded.core.loop self.recorded.ran }
         requires told { IsTiedSoFar J.ticket self }
-        ensures { LoopEnds J.ticket self.entry.board.now self.entry.recorded.core.loop.shared.loop_seat.claims self.entry.recorded.core.setting result.0 result.1 }
+        requires alone { self.recorded.core.loop.shared.loop_seat.joined ≡ [] }
+        ensures { LoopEnds J.ticket self.entry.board.now self.entry.recorded.core.loop.shared.loop_seat.claims self.entry.recorded.core.setting result.0 result.1 result.2 }
     {
-        let served = self.recorded.into_served(self.loop_no, ending);
-        (served, self.pass)
+        let (served, seat) = self.recorded.into_served(self.loop_no, ending);
+        (served, self.pass, seat)
     }
 
     fn until_ended<S: Serves<J>>(&mut self, service: &S) -> Result<LoopEnding, AllocError>

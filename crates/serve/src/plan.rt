@@ -1,6 +1,6 @@
 // What all loops are made of, and the run of one.
 
-ghost use Rattle.std.specs.Prelude.{◌≡◌, IfOk};
+ghost use Rattle.std.specs.Prelude.{◌≡◌, [], IfOk};
 ghost use Rattle.std.specs.Arc.{arc_value};
 ghost use Rattle.marks.specs.Counts.{new_taker};
 ghost use Rattle.serve.specs.Histories.{setting_at};
@@ -15,7 +15,7 @@ use crate::service::Serves;
 use crate::serving::Serving;
 use crate::watch::Watch;
 use board::{Board, Pass};
-use claims::Claims;
+use claims::{Claims, LoopSeat};
 use imports::Linked;
 use marks::{Marks, TakeSeat};
 use std::alloc::{AllocError, Global};
@@ -32,8 +32,8 @@ pub struct ServicePlan {
     ran_out: AtomicBool,
 }
 
-/// What comes of a loop's thread: what the loop did, with its pass.
-pub type LoopResult<J> = Result<(Served, Pass<J>), AllocError>;
+/// What comes of a loop's thread: what the loop did, with its pass and its seat.
+pub type LoopResult<J> = Result<(Served, Pass<J>, LoopSeat), AllocError>;
 
 /// That what comes of a thread is said of this loop.
 #[derive(Drop)]
@@ -45,7 +45,7 @@ pub struct ThreadOfLoop<'a, J> {
 }
 
 impl<'a, J: Job> Promise<LoopResult<J>> for ThreadOfLoop<'a, J> {
-    ghost kept_by = { λ p r. IfOk r (λ end. LoopEnds J.ticket p.board.now p.claims.now.id (setting_at (arc_value p.plan.now.linked) p.plan.now.serving p.loop_no) end.0 end.1) };
+    ghost kept_by = { λ p r. IfOk r (λ end. LoopEnds J.ticket p.board.now p.claims.now.id (setting_at (arc_value p.plan.now.linked) p.plan.now.serving p.loop_no) end.0 end.1 end.2) };
 }
 
 impl ServicePlan {
@@ -70,7 +70,7 @@ impl ServicePlan {
     /// One loop, until it has ended.
     pub fn run<S: Serves<J>, J: Job>(&self, service: &S, place: LoopPlace<'_, J>) -> LoopResult<J>
         requires { S.ready service.now }
-        ensures { IfOk result (λ r. LoopEnds J.ticket place.entry.board.now place.entry.claims.now.id (setting_at (arc_value self.now.linked) self.now.serving place.entry.seat.loop_no) r.0 r.1) }
+        ensures { IfOk result (λ r. LoopEnds J.ticket place.entry.board.now place.entry.claims.now.id (setting_at (arc_value self.now.linked) self.now.serving place.entry.seat.loop_no) r.0 r.1 r.2) }
     {
         let outcome = self.turns(service, place);
         if outcome.is_err() {
@@ -81,7 +81,7 @@ impl ServicePlan {
 
     fn turns<S: Serves<J>, J: Job>(&self, service: &S, place: LoopPlace<'_, J>) -> LoopResult<J>
         requires { S.ready service.now }
-        ensures { IfOk result (λ r. LoopEnds J.ticket place.entry.board.now place.entry.claims.now.id (setting_at (arc_value self.now.linked) self.now.serving place.entry.seat.loop_no) r.0 r.1) }
+        ensures { IfOk result (λ r. LoopEnds J.ticket place.entry.board.now place.entry.claims.now.id (setting_at (arc_value self.now.linked) self.now.serving place.entry.seat.loop_no) r.0 r.1 r.2) }
     {
         let (marks, taker) = own_marks(self.alloc)?;
         let thread = self.begin(&marks, taker, place, service.watch().measures_work())?;
@@ -99,6 +99,7 @@ impl ServicePlan {
         requires { taker ≡ new_taker marks.now 0 }
         ensures board { IfOk result (λ t. t.board ≡ place.entry.board) }
         ensures claims { IfOk result (λ t. t.recorded.core.loop.shared.loop_seat.claims ≡ place.entry.claims.now.id) }
+        ensures alone { IfOk result (λ t. t.recorded.core.loop.shared.loop_seat.joined ≡ []) }
         ensures told { IfOk result (λ t. IsTiedSoFar J.ticket t) }
         ensures setting { IfOk result (λ t. t.recorded.core.setting ≡ setting_at (arc_value self.now.linked) self.now.serving place.entry.seat.loop_no) }
         ensures goes { IfOk result (λ t. CanGoOn t.recorded) }

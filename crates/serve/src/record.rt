@@ -9,6 +9,7 @@ use crate::account::Account;
 use crate::meter::Meter;
 use crate::served::{LoopEnding, Served};
 use crate::watch::Watch;
+use claims::LoopSeat;
 use events::did::Hint;
 use events::phase::Phase;
 use limits::{MAX_CALLBACKS, MAX_EMITS};
@@ -249,24 +250,27 @@ impl<'a> LoopRecord<'a> {
         self.core.outstanding() > 0
     }
 
-    /// What the loop has done, and how it ended.
-    pub fn into_served(self, loop_no: u32, ending: LoopEnding) -> Served
+    /// What the loop has done, and how it ended, with its seat of the claims.
+    pub fn into_served(self, loop_no: u32, ending: LoopEnding) -> (Served, LoopSeat)
         requires loop_no { loop_no ≡ self.core.setting.loop_no }
         requires ends { EndsBy thread_calls ending self.core.loop self.ran }
         requires done { ∥ HasDone thread_calls self.core.setting self.core.loop self.ran self.emits.items ∥₁ }
-        ensures loop_no { result.loop_no ≡ loop_no }
-        ensures ending { result.ending ≡ ending }
-        ensures emits { result.emits ≡ self.entry.emits }
+        ensures loop_no { result.0.loop_no ≡ loop_no }
+        ensures ending { result.0.ending ≡ ending }
+        ensures emits { result.0.emits ≡ self.entry.emits }
+        ensures seat { result.1 ≡ self.entry.core.loop.shared.loop_seat }
     {
         let trail = last_trail(&self.core);
         let mut account = self.account;
         account.count_refused(self.core.refused());
-        Served {
+        let served = Served {
             loop_no,
             ending,
             emits: self.emits,
             account,
             trail,
-        }
+        };
+        let (seat, _) = self.core.into_shared().into_seats();
+        (served, seat)
     }
 }

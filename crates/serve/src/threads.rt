@@ -5,7 +5,7 @@ ghost use Rattle.std.specs.Arc.{arc_value};
 ghost use Rattle.std.specs.Thread.{IsSync};
 ghost use Rattle.serve.specs.Histories.{setting_at};
 ghost use Rattle.serve.specs.Inner.Ends.{LoopEnds, EachLoopEnds, WorkerEnds};
-ghost use Rattle.serve.specs.Inner.Places.{EachFrom, EachDown, EachPair};
+ghost use Rattle.serve.specs.Inner.Places.{EachFrom, EachDown, EachPair, EachThree};
 ghost use Rattle.serve.specs.Inner.Promises.{IsThreadOf};
 
 use crate::crew::{join_workers, start_workers};
@@ -17,7 +17,7 @@ use crate::service::Service;
 use crate::task::Task;
 use crate::watch::Watch;
 use board::{Board, Pass};
-use claims::{Claims, WorkerSeat};
+use claims::{Claims, LoopSeat, WorkerSeat};
 use std::alloc::AllocError;
 use std::sync::Wait;
 use std::thread;
@@ -30,6 +30,8 @@ pub struct ThreadsEnded<J> {
     pub served: Vec<Served>,
     /// The loops' passes.
     pub loops: Vec<Pass<J>>,
+    /// The loops' seats.
+    pub loop_seats: Vec<LoopSeat>,
     /// The workers' passes.
     pub workers: Vec<Pass<J>>,
     /// The workers' seats.
@@ -58,7 +60,7 @@ pub fn run_all<
     requires workers { EachDown (λ w p. (p.board.now ≡ board.now) × (p.claims.now ≡ claims.now) × (p.seat.worker_no ≡ w)) (length workers.items) workers.items }
     requires loops { EachDown (λ k p. (p.board.now ≡ board.now) × (p.claims.now ≡ claims.now) × (p.seat.loop_no ≡ k)) (length loops.items) loops.items }
     ensures loops_count { IfOk result (λ r. length r.served.items ≡ length loops.entry.items) }
-    ensures loops { IfOk result (λ r. EachPair (λ k s p. LoopEnds J.ticket board.now claims.now.id (setting_at (arc_value plan.now.linked) plan.now.serving k) s p) 0 r.served.items r.loops.items) }
+    ensures loops { IfOk result (λ r. EachThree (λ k s p q. LoopEnds J.ticket board.now claims.now.id (setting_at (arc_value plan.now.linked) plan.now.serving k) s p q) 0 r.served.items r.loops.items r.loop_seats.items) }
     ensures workers_count { IfOk result (λ r. length r.workers.items ≡ length workers.entry.items) }
     ensures workers { IfOk result (λ r. EachPair (WorkerEnds J.ticket board.now claims.now) 0 r.workers.items r.seats.items) }
 {
@@ -71,7 +73,7 @@ pub fn run_all<
             requires workers { EachDown (λ w p. (p.board.now ≡ board.now) × (p.claims.now ≡ claims.now) × (p.seat.worker_no ≡ w)) (length workers.items) workers.items }
             requires loops { EachDown (λ k p. (p.board.now ≡ board.now) × (p.claims.now ≡ claims.now) × (p.seat.loop_no ≡ k)) (length loops.items) loops.items }
             ensures loops_count { IfOk result (λ r. length r.served.items ≡ length loops.entry.items) }
-            ensures loops { IfOk result (λ r. EachLoopEnds J.ticket board.entry.now claims.entry.now.id (setting_at (arc_value plan.entry.now.linked) plan.entry.now.serving) r.served.items r.loops.items) }
+            ensures loops { IfOk result (λ r. EachLoopEnds J.ticket board.entry.now claims.entry.now.id (setting_at (arc_value plan.entry.now.linked) plan.entry.now.serving) r.served.items r.loops.items r.loop_seats.items) }
             ensures workers_count { IfOk result (λ r. length r.workers.items ≡ length workers.entry.items) }
             ensures workers { IfOk result (λ r. EachPair (WorkerEnds J.ticket board.entry.now claims.entry.now) 0 r.workers.items r.seats.items) }
         { run_in(scope, service, plan, board, claims, workers, loops) },
@@ -100,7 +102,7 @@ fn run_in<
     requires workers { EachDown (λ w p. (p.board.now ≡ board.now) × (p.claims.now ≡ claims.now) × (p.seat.worker_no ≡ w)) (length workers.items) workers.items }
     requires loops { EachDown (λ k p. (p.board.now ≡ board.now) × (p.claims.now ≡ claims.now) × (p.seat.loop_no ≡ k)) (length loops.items) loops.items }
     ensures loops_count { IfOk result (λ r. length r.served.items ≡ length loops.entry.items) }
-    ensures loops { IfOk result (λ r. EachPair (λ k s p. LoopEnds J.ticket board.now claims.now.id (setting_at (arc_value plan.now.linked) plan.now.serving k) s p) 0 r.served.items r.loops.items) }
+    ensures loops { IfOk result (λ r. EachThree (λ k s p q. LoopEnds J.ticket board.now claims.now.id (setting_at (arc_value plan.now.linked) plan.now.serving k) s p q) 0 r.served.items r.loops.items r.loop_seats.items) }
     ensures workers_count { IfOk result (λ r. length r.workers.items ≡ length workers.entry.items) }
     ensures workers { IfOk result (λ r. EachPair (WorkerEnds J.ticket board.now claims.now) 0 r.workers.items r.seats.items) }
 {
@@ -112,11 +114,12 @@ fn run_in<
         Err(AllocError) => Err(AllocError),
     };
     board.close();
-    let (served, loops) = outcome?;
+    let (served, loops, loop_seats) = outcome?;
     join_workers(service.rt, board, claims, crew, &mut passes, &mut seats);
     Ok(ThreadsEnded {
         served,
         loops,
+        loop_seats,
         workers: passes,
         seats,
     })
@@ -137,16 +140,17 @@ fn run_loops<
     board: &Board<J>,
     claims: &Claims,
     places: Vec<LoopPlace<'s, J>>,
-) -> Result<(Vec<Served>, Vec<Pass<J>>), AllocError>
+) -> Result<(Vec<Served>, Vec<Pass<J>>, Vec<LoopSeat>), AllocError>
     requires make { M.IsAlwaysCallable service.now.make.now }
     requires sync { IsSync R.row × IsSync M.row × IsSync W.row }
     requires each { EachDown (λ k p. (p.board.now ≡ board.now) × (p.claims.now ≡ claims.now) × (p.seat.loop_no ≡ k)) (length places.items) places.items }
     ensures count { IfOk result (λ r. length r.0.items ≡ length places.entry.items) }
-    ensures each { IfOk result (λ r. EachPair (λ k s p. LoopEnds J.ticket board.now claims.now.id (setting_at (arc_value plan.now.linked) plan.now.serving k) s p) 0 r.0.items r.1.items) }
+    ensures each { IfOk result (λ r. EachThree (λ k s p q. LoopEnds J.ticket board.now claims.now.id (setting_at (arc_value plan.now.linked) plan.now.serving k) s p q) 0 r.0.items r.1.items r.2.items) }
 {
     let mut started = Vec::with_capacity(plan.alloc, places.len())?;
     let mut served = Vec::with_capacity(plan.alloc, places.len())?;
     let mut passes = Vec::with_capacity(plan.alloc, places.len())?;
+    let mut seats = Vec::with_capacity(plan.alloc, places.len())?;
     let starting = start_loops(scope, service, plan, board, claims, places, &mut started);
     let ending = join_loops(
         service.rt,
@@ -156,10 +160,11 @@ fn run_loops<
         started,
         &mut served,
         &mut passes,
+        &mut seats,
     );
     starting?;
     ending?;
-    Ok((served, passes))
+    Ok((served, passes, seats))
 }
 
 /// A thread for each loop, the first loop's first, until memory runs out.
@@ -228,7 +233,7 @@ fn start_loop<
         move || -> LoopResult<J>
             requires make { M.IsAlwaysCallable service.now.make.now }
             requires sync { IsSync R.row × IsSync M.row × IsSync W.row }
-            ensures { IfOk result (λ r. LoopEnds J.ticket place.entry.board.now place.entry.claims.now.id (setting_at (arc_value plan.entry.now.linked) plan.entry.now.serving place.entry.seat.loop_no) r.0 r.1) }
+            ensures { IfOk result (λ r. LoopEnds J.ticket place.entry.board.now place.entry.claims.now.id (setting_at (arc_value plan.entry.now.linked) plan.entry.now.serving place.entry.seat.loop_no) r.0 r.1 r.2) }
         { plan.run(service, place) },
     )?;
     Ok(thread)
@@ -243,19 +248,21 @@ fn join_loops<'s, R: Threads, J: Job>(
     started: Vec<LoopHandle<'s, J>>,
     served: &mut Vec<Served>,
     passes: &mut Vec<Pass<J>>,
+    seats: &mut Vec<LoopSeat>,
 ) -> Result<(), AllocError>
-    requires room { (length started.items ≤ vec_capacity served.old) × (length started.items ≤ vec_capacity passes.old) }
-    requires none { (served.old.items ≡ []) × (passes.old.items ≡ []) }
+    requires room { (length started.items ≤ vec_capacity served.old) × (length started.items ≤ vec_capacity passes.old) × (length started.items ≤ vec_capacity seats.old) }
+    requires none { (served.old.items ≡ []) × (passes.old.items ≡ []) × (seats.old.items ≡ []) }
     requires promised { EachFrom (λ k h. IsThreadOf plan.now board.now claims.now k h.promise) 0 started.items }
     ensures count { OnOk result (length served.new.items ≡ length started.entry.items) }
-    ensures each { OnOk result (EachPair (λ k s p. LoopEnds J.ticket board.now claims.now.id (setting_at (arc_value plan.now.linked) plan.now.serving k) s p) 0 served.new.items passes.new.items) }
+    ensures each { OnOk result (EachThree (λ k s p q. LoopEnds J.ticket board.now claims.now.id (setting_at (arc_value plan.now.linked) plan.now.serving k) s p q) 0 served.new.items passes.new.items seats.new.items) }
 {
     let mut ending = Ok(());
     for thread in started {
         match thread.join(rt) {
-            Ok((one, pass)) => {
+            Ok((one, pass, seat)) => {
                 served.push_reserved(one);
                 passes.push_reserved(pass);
+                seats.push_reserved(seat);
             }
             Err(AllocError) => ending = Err(AllocError),
         }

@@ -2,7 +2,7 @@
 use Rattle.std.specs.Prelude.{◌≡◌, ℕ, ◌+◌, ◌≤◌, List, [], ◌∷◌, ◌++◌, map, count_by, Some, slice_get}
 use Rattle.atomic_table.specs.Seated.{TableId}
 use Rattle.claims.specs.declared.seats.Ticket.{Ticket}
-use Rattle.claims.specs.Views.{ClaimsView, WorkerView, EachOnce, is_ticket}
+use Rattle.claims.specs.Views.{ClaimsView, LoopView, WorkerView, EachOnce, is_ticket}
 use Rattle.order.specs.Orders.{order_of, end_of}
 use Rattle.order.specs.Work.{WorkOrder, WorkEnd}
 use Rattle.order.specs.declared.reply.Reply.{Reply}
@@ -15,7 +15,7 @@ use Rattle.serve.specs.declared.served.LoopEnding.{LoopEnding}
 use Rattle.serve.specs.declared.served.Served.{Served}
 use Rattle.serve.specs.HandedOut.{FoundBehind, passed_of}
 use Rattle.serve.specs.Histories.{HasEnded, thread_calls}
-use Rattle.serve.specs.Inner.Places.{EachPair}
+use Rattle.serve.specs.Inner.Places.{EachThree}
 use Rattle.serve.specs.Joint.{asks}
 
 -- a reply, as a loop is offered it
@@ -27,6 +27,10 @@ abbrev pub offered_in : List Event → List (WorkOrder × WorkEnd)
 offered_in [] = []
 offered_in (EndOffered o end taken ∷ events) = (o, end) ∷ offered_in events
 offered_in (_ ∷ events) = offered_in events
+
+-- a loop's seat is of these claims, and no worker's was joined to it
+abbrev pub IsUnjoined : TableId → LoopView → Type 0
+IsUnjoined claims seat = (seat.claims ≡ claims) × (seat.joined ≡ [])
 
 module _ {J : Type 0} (ticket : J → Ticket) where
   -- with the pass and the seat just these turns were taken
@@ -52,20 +56,21 @@ module _ {J : Type 0} (ticket : J → Ticket) where
     pub offered : (h : HandView Reply) → slice_get pass.replies loop_no ≡ Some h → offered_in events ≡ map (λ n. offer_of n.item) h.taken
     pub own : (i : ℕ) (offer : WorkOrder × WorkEnd) → slice_get (offered_in events) i ≡ Some offer → offer.0.loop_no ≡ loop_no
 
-  -- a history of a loop that has ended so, with a seat of these claims, which is tied to its pass, and in which what is found started was
+  -- a history of a loop that has ended so, with this seat, which is tied to its pass, and in which what is found started was
   -- handed out before
-  pub record DidEvents (claims : TableId) (g : Setting) (ending : LoopEnding) (emits : List ℕ) (pass : PassView J) : Type 0 where
+  pub record DidEvents (g : Setting) (ending : LoopEnding) (emits : List ℕ) (pass : PassView J) (seat : LoopView) : Type 0 where
     pub ended : HasEnded thread_calls g ending emits
     pub tied : IsTied g.loop_no pass [] ended.done.events
     pub found : FoundBehind [] (passed_of g ended.done)
-    pub of_claims : ended.now.shared.loop_seat.claims ≡ claims
+    pub with_seat : ended.now.shared.loop_seat ≡ seat
 
-  pub record LoopEnds (board : BoardView) (claims : TableId) (g : Setting) (served : Served) (pass : PassView J) : Type 0 where
+  pub record LoopEnds (board : BoardView) (claims : TableId) (g : Setting) (served : Served) (pass : PassView J) (seat : LoopView) : Type 0 where
     pub own : IsPassOf board pass
     pub number : HasNumber (g.loop_no + 1) pass
     pub numbered : served.loop_no ≡ g.loop_no
-    pub did : ∥ DidEvents claims g served.ending served.emits.items pass ∥₁
+    pub alone : IsUnjoined claims seat
+    pub did : ∥ DidEvents g served.ending served.emits.items pass seat ∥₁
 
   -- each loop, counted from 0, has ended so
-  abbrev pub EachLoopEnds : BoardView → TableId → (ℕ → Setting) → List Served → List (PassView J) → Type 0
-  EachLoopEnds board claims setting served passes = EachPair (λ k s p. LoopEnds board claims (setting k) s p) 0 served passes
+  abbrev pub EachLoopEnds : BoardView → TableId → (ℕ → Setting) → List Served → List (PassView J) → List LoopView → Type 0
+  EachLoopEnds board claims setting served passes seats = EachThree (λ k s p q. LoopEnds board claims (setting k) s p q) 0 served passes seats

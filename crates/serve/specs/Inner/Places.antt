@@ -16,6 +16,12 @@ EachFrom P from (x ∷ xs) = P from x × EachFrom P (suc from) xs
 abbrev pub EachDown : {A : Type 0} → (ℕ → A → Type 0) → (count : ℕ) → List A → Type 0
 EachDown P count xs = EachFrom (λ at x. (number : ℕ) × (at + number + 1 ≡ count) × P number x) 0 xs
 
+-- three lists likewise
+abbrev pub EachThree : {A B C : Type 0} → (ℕ → A → B → C → Type 0) → (from : ℕ) → List A → List B → List C → Type 0
+EachThree R from [] [] [] = Unit {0}
+EachThree R from (x ∷ xs) (y ∷ ys) (z ∷ zs) = R from x y z × EachThree R (suc from) xs ys zs
+EachThree R from _ _ _ = ⊥
+
 -- two lists are equally long, and what stands in the same place stands in this relation, with its number, counted from here
 abbrev pub EachPair : {A B : Type 0} → (ℕ → A → B → Type 0) → (from : ℕ) → List A → List B → Type 0
 EachPair R from [] [] = Unit {0}

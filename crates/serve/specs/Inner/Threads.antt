@@ -38,6 +38,7 @@ module _ {J : Type 0} (ticket : J → Ticket) where
   pub record Stays (old new : LoopThread J) : Type 0 where
     pub board : new.board ≡ old.board
     pub claims : new.recorded.core.loop.shared.loop_seat.claims ≡ old.recorded.core.loop.shared.loop_seat.claims
+    pub joined : new.recorded.core.loop.shared.loop_seat.joined ≡ old.recorded.core.loop.shared.loop_seat.joined
     pub setting : new.recorded.core.setting ≡ old.recorded.core.setting
     pub told : IsTiedSoFar old → IsTiedSoFar new
 

@@ -1,6 +1,6 @@
-use Rattle.serve.proofs.Words.{All, ap, arc_value, AreNumbered, AreRepliesWhole, arith, IsPassOf, length, subst, sym, ◌+◌, ◌∙◌, ◌≡◌}
+use Rattle.serve.proofs.Words.{All, ap, arc_value, AreNumbered, AreRepliesWhole, arith, EachOnce, IsPassOf, IsSettled, length, LoopView, ℕ, subst, sym, ◌+◌, ◌∙◌, ◌≡◌}
 use Rattle.std.proofs.lemmas.List.{length-append}
-use Rattle.serve.proofs.Gathered.{all_own, all_numbered, all_claims, all_once, some_seats, as_many_loops, each_served, jointly}
+use Rattle.serve.proofs.Gathered.{all_unjoined, anyhow, from_all, seated, all_own, all_numbered, all_claims, all_once, some_seats, as_many_loops, each_served, jointly}
 use Rattle.serve.proofs.joint.gathered.Goals as goal
 
 pub gather_all-requires-clause-new : goal.gather_all-requires-clause-new
@@ -9,7 +9,7 @@ gather_all-requires-clause-new g c =
     let plan = c.args.plan.now in
     let items = c.in_ok-append.ensures.items in
     let size = ap length items ∙ length-append e.loops.items e.workers.items in
-    let loops = as_many_loops g.J.Job.ticket (arc_value plan.linked) plan.serving c.args.board.now c.args.claims.now e.served.items e.loops.items e.workers.items e.seats.items c.requires.loops_end c.requires.workers_end in
+    let loops = as_many_loops g.J.Job.ticket (arc_value plan.linked) plan.serving c.args.board.now c.args.claims.now e.served.items e.loops.items e.workers.items e.seats.items (λ k q. Unit {0}) (anyhow g.J.Job.ticket (arc_value plan.linked) plan.serving c.args.board.now c.args.claims.now e.served.items e.loops.items e.loop_seats.items c.requires.loops_end) c.requires.workers_end in
     let count = c.requires.loops_count in
     let crew = c.requires.workers_count in
     let all : plan.serving.loops + plan.serving.workers ≡ length c.append.new.self.items = omega arith in
@@ -20,42 +20,48 @@ gather_all-requires-clause-passes g c =
     let e = c.args.ended in
     let plan = c.args.plan.now in
     subst (All (IsPassOf c.args.board.now)) (sym c.in_ok-append.ensures.items)
-    (all_own g.J.Job.ticket (arc_value plan.linked) plan.serving c.args.board.now c.args.claims.now e.served.items e.loops.items e.workers.items e.seats.items c.requires.loops_end c.requires.workers_end)
+    (all_own g.J.Job.ticket (arc_value plan.linked) plan.serving c.args.board.now c.args.claims.now e.served.items e.loops.items e.workers.items e.seats.items (λ k q. Unit {0}) (anyhow g.J.Job.ticket (arc_value plan.linked) plan.serving c.args.board.now c.args.claims.now e.served.items e.loops.items e.loop_seats.items c.requires.loops_end) c.requires.workers_end)
 
 pub gather_all-requires-clause-numbers : goal.gather_all-requires-clause-numbers
 gather_all-requires-clause-numbers g c =
     let e = c.args.ended in
     let plan = c.args.plan.now in
     subst AreNumbered (sym c.in_ok-append.ensures.items)
-    (all_numbered g.J.Job.ticket (arc_value plan.linked) plan.serving c.args.board.now c.args.claims.now e.served.items e.loops.items e.workers.items e.seats.items c.requires.loops_end c.requires.workers_end
+    (all_numbered g.J.Job.ticket (arc_value plan.linked) plan.serving c.args.board.now c.args.claims.now e.served.items e.loops.items e.workers.items e.seats.items (λ k q. Unit {0}) (anyhow g.J.Job.ticket (arc_value plan.linked) plan.serving c.args.board.now c.args.claims.now e.served.items e.loops.items e.loop_seats.items c.requires.loops_end) c.requires.workers_end
     (c.requires.loops.1 ∙ sym c.requires.loops_count))
 
-pub gather_seats-crew-requires-clause-one : goal.gather_seats-crew-requires-clause-one
-gather_seats-crew-requires-clause-one g c =
+pub gather_seats-requires-clause-one : goal.gather_seats-requires-clause-one
+gather_seats-requires-clause-one g c =
     let e = c.args.ended in
     let plan = c.args.plan.now in
-    let size = some_seats g.J.Job.ticket (arc_value plan.linked) plan.serving c.args.board.now c.args.claims.now e.served.items e.loops.items e.workers.items e.seats.items c.requires.loops_end c.requires.workers_end in
+    let size = some_seats g.J.Job.ticket (arc_value plan.linked) plan.serving c.args.board.now c.args.claims.now e.served.items e.loops.items e.workers.items e.seats.items (λ k q. Unit {0}) (anyhow g.J.Job.ticket (arc_value plan.linked) plan.serving c.args.board.now c.args.claims.now e.served.items e.loops.items e.loop_seats.items c.requires.loops_end) c.requires.workers_end in
     let crew = c.requires.workers_count in
     let some = plan.serving.few_workers.0 in
     omega arith
 
-pub gather_seats-crew-requires-clause-own : goal.gather_seats-crew-requires-clause-own
-gather_seats-crew-requires-clause-own g c =
+pub gather_seats-requires-clause-own : goal.gather_seats-requires-clause-own
+gather_seats-requires-clause-own g c =
     let e = c.args.ended in
     let plan = c.args.plan.now in
-    all_claims g.J.Job.ticket (arc_value plan.linked) plan.serving c.args.board.now c.args.claims.now e.served.items e.loops.items e.workers.items e.seats.items c.requires.loops_end c.requires.workers_end
+    all_claims g.J.Job.ticket (arc_value plan.linked) plan.serving c.args.board.now c.args.claims.now e.served.items e.loops.items e.workers.items e.seats.items (λ k q. Unit {0}) (anyhow g.J.Job.ticket (arc_value plan.linked) plan.serving c.args.board.now c.args.claims.now e.served.items e.loops.items e.loop_seats.items c.requires.loops_end) c.requires.workers_end
 
-pub gather_seats-crew-requires-clause-once : goal.gather_seats-crew-requires-clause-once
-gather_seats-crew-requires-clause-once g c =
+pub gather_seats-requires-clause-once : goal.gather_seats-requires-clause-once
+gather_seats-requires-clause-once g c =
     let e = c.args.ended in
     let plan = c.args.plan.now in
-    all_once g.J.Job.ticket (arc_value plan.linked) plan.serving c.args.board.now c.args.claims.now e.served.items e.loops.items e.workers.items e.seats.items c.requires.loops_end c.requires.workers_end
+    all_once g.J.Job.ticket (arc_value plan.linked) plan.serving c.args.board.now c.args.claims.now e.served.items e.loops.items e.workers.items e.seats.items (λ k q. Unit {0}) (anyhow g.J.Job.ticket (arc_value plan.linked) plan.serving c.args.board.now c.args.claims.now e.served.items e.loops.items e.loop_seats.items c.requires.loops_end) c.requires.workers_end
+
+pub settle_loops-crew-requires-clause-own : goal.settle_loops-crew-requires-clause-own
+settle_loops-crew-requires-clause-own g c =
+    let e = c.args.ended in
+    let plan = c.args.plan.now in
+    all_unjoined g.J.Job.ticket (arc_value plan.linked) plan.serving c.args.board.now c.args.claims.now e.served.items e.loops.items e.loop_seats.items c.requires.loops_end
 
 pub returns-clause-each : goal.returns-clause-each
 returns-clause-each g c =
     let e = c.args.ended in
     let plan = c.args.plan.now in
-    each_served g.J.Job.ticket (arc_value plan.linked) plan.serving c.args.board.now c.args.claims.now e.served.items e.loops.items e.workers.items e.seats.items c.requires.loops_end c.requires.workers_end
+    each_served g.J.Job.ticket (arc_value plan.linked) plan.serving c.args.board.now c.args.claims.now e.served.items e.loops.items e.workers.items e.seats.items (λ k q. Unit {0}) (anyhow g.J.Job.ticket (arc_value plan.linked) plan.serving c.args.board.now c.args.claims.now e.served.items e.loops.items e.loop_seats.items c.requires.loops_end) c.requires.workers_end
 
 pub returns-clause-joint : goal.returns-clause-joint
 returns-clause-joint g c =
@@ -64,5 +70,11 @@ returns-clause-joint g c =
     let items = c.in_ok-append.ensures.items in
     let whole = rw items at c.gather_all.ensures.jobs in
     let replies = rw c.requires.loops.0 at (subst (AreRepliesWhole (length c.args.board.now.replies)) items c.gather_all.ensures.replies) in
-    jointly g.J.Job.ticket (arc_value plan.linked) plan.serving c.args.board.now c.args.claims.now e.served.items e.loops.items e.workers.items e.seats.items c.requires.loops_end c.requires.workers_end
-    c.gather_seats-crew.result c.gather_seats-crew.ensures.claims c.requires.loops_count c.requires.workers_count c.gather_seats-crew.ensures.started c.gather_seats-crew.ensures.once whole replies
+    let crew = c.settle_loops-crew.ensures in
+    let all = c.gather_seats.ensures in
+    let P : ℕ → LoopView → Type 0 = λ k q. IsSettled (record q { joined = c.gather_seats.result.started }) in
+    jointly g.J.Job.ticket (arc_value plan.linked) plan.serving c.args.board.now c.args.claims.now e.served.items e.loops.items e.workers.items e.seats.items P
+    (seated g.J.Job.ticket (arc_value plan.linked) plan.serving c.args.board.now c.args.claims.now e.served.items e.loops.items e.loop_seats.items c.requires.loops_end P
+    (from_all (λ (q : LoopView). IsSettled (record q { joined = c.gather_seats.result.started })) e.loop_seats.items crew.settled))
+    c.requires.workers_end c.settle_loops-crew.result crew.claims (λ k q h. subst (λ xs. IsSettled (record q { joined = xs })) (sym crew.started) h)
+    c.requires.loops_count c.requires.workers_count (crew.started ∙ all.started) (subst EachOnce (sym crew.started) all.once) whole replies

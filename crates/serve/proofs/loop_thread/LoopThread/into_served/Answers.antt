@@ -7,4 +7,4 @@ into_served-served-requires-clause-done g c = done_of g.J.Job.ticket c.args.self
 pub returns : goal.returns
 returns g c =
     let done = c.into_served-served.ensures in
-    loop_ends g.J.Job.ticket c.args.self c.args.ending c.into_served-served.result done.loop_no done.ending done.emits c.requires.ends c.requires.told
+    loop_ends g.J.Job.ticket c.args.self c.args.ending c.into_served-served.result.0 c.into_served-served.result.1 done.seat c.requires.alone done.loop_no done.ending done.emits c.requires.ends c.requires.told

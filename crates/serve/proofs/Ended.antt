@@ -13,6 +13,7 @@ module _ {J : Type 0} (ticket : J → Ticket) (t : LoopThread J) where
     ended = record { now = t.recorded.core.loop; ran = t.recorded.ran; few = t.recorded.few; done = tied.done; ends = ends };
     tied = rw t.numbered (tied_less ticket t.loop_no t.pass (option_to_list t.kept) tied.done.events tied.tied);
     found = tied.behind.found;
+    beside = tied.behind.beside;
     with_seat = refl;
   }
 

@@ -10,7 +10,7 @@ use Rattle.reduction.proofs.StepByStep.{steps_from}
 use Rattle.claims.specs.Views.{OpensSlot, PostsSlot}
 use Rattle.phases.specs.Step.{StepsWith}
 use Rattle.pool.specs.Share.{TriesToCancel, TriesToPost}
-use Rattle.serve.specs.HandedOut.{handed_in}
+use Rattle.serve.specs.HandedOut.{handed_in, OnlyPosts, PostsHanded}
 use Rattle.serve.proofs.OneEventMore.{moves_then}
 use Rattle.serve.proofs.SentAlone.{nothing_known}
 
@@ -108,6 +108,18 @@ GoesBehind old new events =
     → (h : ThreadHistory thread_calls old.core.setting old.core.loop events new.core.loop)
     → PostsAmong (handed ++ handed_out events) new.core.loop.shared.loop_seat
     × FoundBehind handed (passed_in old.core.setting old.core.loop events new.core.loop h)
+    × OnlyPosts handed old.core.loop (passed_in old.core.setting old.core.loop events new.core.loop h)
+
+-- nothing happens beside the loop
+posts_none : (handed : List (ℕ × ℕ)) (e : Event) (old new : Loop Seats) → PostsNone (e ∷ []) → PostsHanded handed e old new
+posts_none handed MovedBeside old new none = absurd none
+posts_none handed _ old new none = tt
+
+beside_unposted : (g : Setting) (handed : List (ℕ × ℕ)) (events : List Event) (old new : Loop Seats) → PostsNone events → (h : ThreadHistory thread_calls g old events new) → OnlyPosts handed old (passed_in g old events new h)
+beside_unposted g handed [] old new none h = tt
+beside_unposted g handed (e ∷ events) old new none h =
+    let none_of = first_none e events none in
+    (posts_none handed e old h.0 none_of.0, beside_unposted g (handed ++ handed_in e) events h.0 new none_of.1 h.2)
 
 pub goes_unposted : (old new : LoopRecord) (events : List Event) → PostsNone events → GoesBehind old new events
 goes_unposted old new events none handed posts h =
@@ -121,6 +133,7 @@ goes_unposted old new events none handed posts h =
         found = λ c there. subst (λ xs. 0 < times c xs) (sym now.same) (now.found c there);
       },
       it.1,
+      beside_unposted old.core.setting handed events old.core.loop new.core.loop none h,
     )
 
 -- a try to post a request
@@ -147,14 +160,19 @@ module _ (handed : List (ℕ × ℕ)) (old new : LoopView) (c : ℕ × ℕ) (pos
 
 goes_posted : (old new : LoopRecord) (o : WorkOrder)
     → PostsSlot old.core.loop.shared.loop_seat new.core.loop.shared.loop_seat (o.slot, o.request) ⊎ (new.core.loop.shared.loop_seat ≡ old.core.loop.shared.loop_seat)
+    → new.core.loop.shared.taker ≡ old.core.loop.shared.taker
     → GoesBehind old new (OrderAsked (Some o) ∷ MovedBeside ∷ [])
-goes_posted old new o one handed posts h =
+goes_posted old new o one taker handed posts h =
     let asked : h.0.shared ≡ old.core.loop.shared = ap (λ (l : Loop Seats). l.shared) h.1.0.1 in
     let found : (d : ℕ × ℕ) → 0 < times d h.0.shared.loop_seat.found_started → 0 < times d handed =
     λ d there. posts.posted d (posts.found d (subst (λ (s : Seats). 0 < times d s.loop_seat.found_started) asked there)) in
-    let same = ap (λ (v : View). v.found_started) h.2.1.0.view in (
+    let same = ap (λ (v : View). v.found_started) h.2.1.0.view in
+    let Moved : Seats → Seats → Type 0 = λ s t. (PostsSlot s.loop_seat t.loop_seat (o.slot, o.request) ⊎ (t.loop_seat ≡ s.loop_seat)) × (t.taker ≡ s.taker) in
+    let moved : Moved h.0.shared h.2.0.shared =
+    subst (λ s. Moved s h.2.0.shared) (sym asked) (subst (Moved old.core.loop.shared) (ap (λ (l : Loop Seats). l.shared) h.2.2) (one, taker)) in (
       posted_one handed old.core.loop.shared.loop_seat new.core.loop.shared.loop_seat (o.slot, o.request) posts one,
       (found, (λ d there. times_front d handed ((o.slot, o.request) ∷ []) (found d (subst (λ xs. 0 < times d xs) same there)), tt)),
+      (tt, (((o.slot, o.request), times_last (o.slot, o.request) handed, moved.0, moved.1), tt)),
     )
 
 -- an order is handed out, and then its request is posted
@@ -168,6 +186,7 @@ module _ (old mid new : LoopRecord) (order : Order) (handed : RecordHandsOut old
       let same : mid.core.loop.shared ≡ old.core.loop.shared = ap (λ (l : Loop Seats). l.shared) (h.2 ∙ h.1.0.1) in
       let seat = new.core.loop.shared.loop_seat in
       goes_posted old new (order_of order) (subst (λ (s : Seats). PostsSlot s.loop_seat seat (order.slot, order.request) ⊎ (seat ≡ s.loop_seat)) same posts.posts)
+      (posts.taker ∙ ap (λ (s : Seats). s.taker) same)
 
 -- a history, and more events
 module _ (g : Setting) where
@@ -186,6 +205,26 @@ module _ (g : Setting) where
     found_then (handed ++ handed_in e) events more h.0 mid new h.2 rest was.1
         (subst (λ xs. FoundBehind xs (passed_in g mid more new rest)) (sym (append_assoc handed (handed_in e) (handed_out events))) next),
   )
+
+  beside_here : (handed : List (ℕ × ℕ)) (more : List Event) (old mid new : Loop Seats) (same : mid ≡ old) (rest : ThreadHistory thread_calls g mid more new)
+      → OnlyPosts handed mid (passed_in g mid more new rest) → OnlyPosts handed old (passed_in g old more new (steps_from (ThreadStep thread_calls g) more old mid new same rest))
+  beside_here handed [] old mid new same rest only = tt
+  beside_here handed (e ∷ more) old mid new same rest only = (subst (λ l. PostsHanded handed e l rest.0) same only.0, only.1)
+
+  pub beside_then : (handed : List (ℕ × ℕ)) (events more : List Event) (old mid new : Loop Seats) (h : ThreadHistory thread_calls g old events mid) (rest : ThreadHistory thread_calls g mid more new)
+      → OnlyPosts handed old (passed_in g old events mid h) → OnlyPosts (handed ++ handed_out events) mid (passed_in g mid more new rest)
+      → OnlyPosts handed old (passed_in g old (events ++ more) new (steps_join (ThreadStep thread_calls g) events more old mid new h rest))
+  beside_then handed [] more old mid new h rest was next =
+      beside_here handed more old mid new h rest (subst (λ xs. OnlyPosts xs mid (passed_in g mid more new rest)) (append-nil handed) next)
+  beside_then handed (e ∷ events) more old mid new h rest was next = (
+    was.0,
+    beside_then (handed ++ handed_in e) events more h.0 mid new h.2 rest was.1
+        (subst (λ xs. OnlyPosts xs mid (passed_in g mid more new rest)) (sym (append_assoc handed (handed_in e) (handed_out events))) next),
+  )
+
+  pub beside_none : (events : List Event) (old new : Loop Seats) (h : ThreadHistory thread_calls g old events new) → events ≡ [] → OnlyPosts [] old (passed_in g old events new h)
+  beside_none [] old new h none = tt
+  beside_none (e ∷ events) old new h none = absurd (cc)
 
   -- no events
   pub found_none : (events : List Event) (old new : Loop Seats) (h : ThreadHistory thread_calls g old events new) → events ≡ [] → FoundBehind [] (passed_in g old events new h)

@@ -5,6 +5,7 @@ use Rattle.serve.proofs.Words.{JointRun, length, List, Loaded, map, Named, offer
 use Rattle.serve.proofs.Words.{same_Some, Served, Serving, setting_at, slice_get, Some, started_by, subst, suc, sym, thread_calls, Ticket, true, Turn, WorkEnd}
 use Rattle.serve.proofs.Words.{WorkerView, WorkOrder, zero, ℕ, [], ∥∥₁_map₂, ◌++◌, ◌+◌, ◌<◌, ◌==◌, ◌∙◌, ◌∷◌, ◌≡◌, ◌≤◌, ◌⊎◌}
 use Rattle.atomic_table.specs.Seated.{TableId}
+use Rattle.serve.specs.HandedOut.{OnlyPosts}
 use Rattle.serve.specs.Joint.{AreOneClaims, IsPut, puts, is_offered, ticket_for, times_in}
 use Rattle.serve.proofs.JointCounts.{Pairs, count_map, PostsWithin, TakesThese, PutsNone, PutsThese, taken_within, offered_within}
 use Rattle.serve.proofs.Lookups.{not_there, is_within, front_at, split_at, by_index, to_index, map_at, map_back}
@@ -179,6 +180,7 @@ module _ {J : Type 0} (ticket : J → Ticket) (loaded : Loaded) (serving : Servi
     DoesAt k s events =
         (ended : HasEnded thread_calls (setting_at loaded serving k) s.ending s.emits.items) × (ended.done.events ≡ events)
         × FoundBehind [] (passed_of (setting_at loaded serving k) ended.done) × AreOneClaims ended.now.shared.loop_seat crew
+        × OnlyPosts [] ended.done.start (passed_of (setting_at loaded serving k) ended.done)
 
     one_table : (q seat : LoopView) → seat ≡ q → q.claims ≡ claims → IsSettled (record q { joined = crew.started }) → AreOneClaims seat crew
     one_table q seat is of settled = subst (λ x. AreOneClaims x crew) (sym is) (record { claims = of ∙ sym own_crew; settled = settled })
@@ -188,7 +190,7 @@ module _ {J : Type 0} (ticket : J → Ticket) (loaded : Loaded) (serving : Servi
         let f = found DidLoop events_of 0 k served lp ls events e in
         let same : f.0.x ≡ s = same_Some f.0.x s (sym f.0.first ∙ at) in
         subst (λ n. DoesAt n s events) (let p = f.1 in omega arith)
-        (subst (λ x. DoesAt f.0.place x events) same (f.0.known.1.ended, f.0.is, f.0.known.1.found, one_table f.0.known.0 f.0.known.1.ended.now.shared.loop_seat f.0.known.1.with_seat f.0.known.2 f.0.known.3))
+        (subst (λ x. DoesAt f.0.place x events) same (f.0.known.1.ended, f.0.is, f.0.known.1.found, one_table f.0.known.0 f.0.known.1.ended.now.shared.loop_seat f.0.known.1.with_seat f.0.known.2 f.0.known.3, f.0.known.1.beside))
 
     offered : (k : ℕ) (events : List Event) → slice_get loops k ≡ Some events → (t : Ticket) → count_by (is_offered t) events ≤ times_in (puts t) workers
     offered k events e t =
@@ -236,6 +238,7 @@ module _ {J : Type 0} (ticket : J → Ticket) (loaded : Loaded) (serving : Servi
       worker_count = as_many DidWorker turns_of 0 wp seats ws ∙ crew_size;
       each = λ k s events at e. let it = does_at k s events at e in (it.0, it.1, it.2);
       own = λ k s events at e. (does_at k s events at e).3;
+      beside = λ k s events at e. (does_at k s events at e).4;
       started = started ∙ seats_started 0 wp seats ws;
       once = once;
       taken = λ t. taken_within ticket t lp wp loops workers

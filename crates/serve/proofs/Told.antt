@@ -13,7 +13,7 @@ use Rattle.phases.specs.Requests.{lowest_open, Requests}
 use Rattle.serve.specs.Inner.Threads.{HandsOutNone, Stays, KeepsGoing}
 use Rattle.serve.proofs.OneTable.{claims_of, unposted_claims, alone_claims, handed_claims}
 use Rattle.serve.proofs.OneEventMore.{no_move, emitted_append, callbacks_append}
-use Rattle.serve.proofs.PostsBehind.{GoesBehind, goes_unposted, moves_posted, behind_posted, handed_append, found_then}
+use Rattle.serve.proofs.PostsBehind.{GoesBehind, goes_unposted, moves_posted, behind_posted, handed_append, found_then, beside_then}
 use Rattle.serve.proofs.Tying.{tied_more, tied_less, tied_made, tied_post, tied_collect}
 
 pub when_none : {A P : Type 0} (r : Option A) → ((x : A) → r ≢ Some x) → IfNone r P → P
@@ -49,6 +49,7 @@ done_more old new events moves goes d behind =
       record {
         posts = subst (λ xs. PostsAmong xs new.core.loop.shared.loop_seat) (sym (handed_append d.events events)) it.0;
         found = found_then g [] d.events events d.start old.core.loop new.core.loop d.history moves.history behind.found it.1;
+        beside = beside_then g [] d.events events d.start old.core.loop new.core.loop d.history moves.history behind.beside it.2;
       },
     )
 

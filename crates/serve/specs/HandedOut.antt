@@ -1,7 +1,8 @@
 -- What a loop hands out, event by event, and what it has found started by then.
-use Rattle.std.specs.Prelude.{ℕ, ◌<◌, List, [], ◌∷◌, ◌++◌, Some}
+use Rattle.std.specs.Prelude.{◌≡◌, ◌⊎◌, ℕ, ◌<◌, List, [], ◌∷◌, ◌++◌, Some}
 use Rattle.tallies.specs.Requests.{times}
-use Rattle.phases.specs.History.{Event, OrderAsked}
+use Rattle.claims.specs.Views.{PostsSlot}
+use Rattle.phases.specs.History.{Event, MovedBeside, OrderAsked}
 use Rattle.phases.specs.State.{Setting, Loop}
 use Rattle.desk.specs.Laws.{Passed}
 use Rattle.pool.specs.declared.seats.Seats.{Seats}
@@ -21,6 +22,18 @@ module _ (g : Setting) where
   -- those of what a loop has done
   abbrev pub passed_of : {now : Loop Seats} {ran : ℕ} {emits : List ℕ} → HasDone thread_calls g now ran emits → List (Passed Seats)
   passed_of {now} done = passed_in done.start done.events now done.history
+
+-- An event beside the loop's is a try of its thread to post a request that the loop has handed out: the seat has posted it, or is as it
+-- was, and nothing else changes.
+abbrev pub PostsHanded : (handed : List (ℕ × ℕ)) → Event → (old new : Loop Seats) → Type 0
+PostsHanded handed MovedBeside old new =
+    (c : ℕ × ℕ) × (0 < times c handed) × (PostsSlot old.shared.loop_seat new.shared.loop_seat c ⊎ (new.shared.loop_seat ≡ old.shared.loop_seat))
+    × (new.shared.taker ≡ old.shared.taker)
+PostsHanded handed _ old new = Unit {0}
+
+abbrev pub OnlyPosts : (handed : List (ℕ × ℕ)) → (old : Loop Seats) → List (Passed Seats) → Type 0
+OnlyPosts handed old [] = Unit {0}
+OnlyPosts handed old (p ∷ passed) = PostsHanded handed p.event old p.new × OnlyPosts (handed ++ handed_in p.event) p.new passed
 
 -- what a loop has found started when an event is over, it had handed out before the event
 abbrev pub FoundBehind : (handed : List (ℕ × ℕ)) → List (Passed Seats) → Type 0

@@ -47,7 +47,7 @@ abbrev pub WaitsUntil : (ms : ℕ) → State → Type 0
 WaitsUntil ms s = (s.requests.outstanding ≡ []) × (s.clock ≡ s.now) × ((d : ℕ) × (hint_of s ≡ For d) × (ms ≡ saturated (s.now + d)))
 
 -- What a thread does of its own with a loop that stands so: it cancels and makes no request. Beside the loop it only posts a request
--- that it has handed out: EventStep says that the state stays, and what the loop knows of the object that it shares.
+-- that it has handed out (OnlyPosts): the state stays, and what the loop knows of the object that it shares.
 abbrev pub IsByThread : Event → State → Type 0
 IsByThread (Stepped did emits made) s = Unit {0}
 IsByThread (OrderAsked order) s = Unit {0}

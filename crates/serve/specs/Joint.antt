@@ -11,7 +11,7 @@ use Rattle.phases.specs.History.{Event, OrderAsked, EndOffered}
 use Rattle.pool.specs.Turns.{Turn, Put, ticket_in, started_by}
 use Rattle.serve.specs.declared.served.Served.{Served}
 use Rattle.serve.specs.declared.serving.Serving.{Serving}
-use Rattle.serve.specs.HandedOut.{FoundBehind, passed_of}
+use Rattle.serve.specs.HandedOut.{FoundBehind, OnlyPosts, passed_of}
 use Rattle.serve.specs.Histories.{HasEnded, thread_calls, setting_at}
 
 -- the ticket of a request that was asked for
@@ -52,7 +52,7 @@ pub record AreOneClaims (seat : LoopView) (crew : WorkerView) : Type 0 where
   pub settled : IsSettled (record seat { joined = crew.started })
 
 -- There are a history of each loop, which its answer reports, and in which the loop has found started only what it had handed out
--- before; and the turns of each worker, in order, which started just what the crew's seats have started, worker by worker: each
+-- before, and its thread did nothing beside it but post such requests; and the turns of each worker, in order, which started just what the crew's seats have started, worker by worker: each
 -- ticket once. The seat with which a loop has ended is of the same claims as the crew's: what it cancelled no worker started, and what a
 -- worker started of its requests it had posted. Of every ticket workers took, all together, at most as many jobs as its order was handed out. Of every ticket a loop
 -- was offered at most as many replies as workers put, all together; each is to a request of its own, and in all fields one that a
@@ -65,6 +65,9 @@ pub record JointRun (loaded : Loaded) (serving : Serving) (served : List Served)
   pub each : (k : ℕ) (s : Served) (events : List Event) → slice_get served k ≡ Some s → slice_get loops k ≡ Some events
       → (ended : HasEnded thread_calls (setting_at loaded serving k) s.ending s.emits.items) × (ended.done.events ≡ events)
       × FoundBehind [] (passed_of (setting_at loaded serving k) ended.done)
+  pub beside : (k : ℕ) (s : Served) (events : List Event) (at : slice_get served k ≡ Some s) (did : slice_get loops k ≡ Some events)
+      → let done = (each k s events at did).0.done in
+      OnlyPosts [] done.start (passed_of (setting_at loaded serving k) done)
   pub own : (k : ℕ) (s : Served) (events : List Event) (at : slice_get served k ≡ Some s) (did : slice_get loops k ≡ Some events)
       → AreOneClaims (each k s events at did).0.now.shared.loop_seat crew
   pub started : crew.started ≡ flat_map started_by workers

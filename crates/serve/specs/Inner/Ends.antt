@@ -13,7 +13,7 @@ use Rattle.phases.specs.State.{Setting}
 use Rattle.pool.specs.Turns.{Turn, ticket_in, started_by, put_for}
 use Rattle.serve.specs.declared.served.LoopEnding.{LoopEnding}
 use Rattle.serve.specs.declared.served.Served.{Served}
-use Rattle.serve.specs.HandedOut.{FoundBehind, passed_of}
+use Rattle.serve.specs.HandedOut.{FoundBehind, OnlyPosts, passed_of}
 use Rattle.serve.specs.Histories.{HasEnded, thread_calls}
 use Rattle.serve.specs.Inner.Places.{EachThree}
 use Rattle.serve.specs.Joint.{asks}
@@ -62,6 +62,7 @@ module _ {J : Type 0} (ticket : J → Ticket) where
     pub ended : HasEnded thread_calls g ending emits
     pub tied : IsTied g.loop_no pass [] ended.done.events
     pub found : FoundBehind [] (passed_of g ended.done)
+    pub beside : OnlyPosts [] ended.done.start (passed_of g ended.done)
     pub with_seat : ended.now.shared.loop_seat ≡ seat
 
   pub record LoopEnds (board : BoardView) (claims : TableId) (g : Setting) (served : Served) (pass : PassView J) (seat : LoopView) : Type 0 where

@@ -36,3 +36,4 @@ IsOffered old reply new = (is_taken : Bool) × MovesBy old (EndOffered (order_of
 pub record RecordPosts (old : LoopRecord) (c : ℕ × ℕ) (new : LoopRecord) : Type 0 where
   pub moves : MovesBy old (MovedBeside ∷ []) new
   pub posts : PostsSlot old.core.loop.shared.loop_seat new.core.loop.shared.loop_seat c ⊎ (new.core.loop.shared.loop_seat ≡ old.core.loop.shared.loop_seat)
+  pub taker : new.core.loop.shared.taker ≡ old.core.loop.shared.taker

@@ -5,7 +5,7 @@ use Rattle.claims.specs.Views.{LoopView}
 use Rattle.phases.specs.History.{Event, MovedBeside}
 use Rattle.phases.specs.State.{Setting, Loop}
 use Rattle.pool.specs.declared.seats.Seats.{Seats}
-use Rattle.serve.specs.HandedOut.{handed_in, passed_of, FoundBehind}
+use Rattle.serve.specs.HandedOut.{handed_in, passed_of, FoundBehind, OnlyPosts}
 use Rattle.serve.specs.Histories.{HasDone, thread_calls}
 
 -- nothing is posted in these events
@@ -29,3 +29,4 @@ pub record PostsAmong (handed : List (ℕ × ℕ)) (seat : LoopView) : Type 0 wh
 pub record IsBehind (g : Setting) {now : Loop Seats} {ran : ℕ} {emits : List ℕ} (done : HasDone thread_calls g now ran emits) : Type 0 where
   pub posts : PostsAmong (handed_out done.events) now.shared.loop_seat
   pub found : FoundBehind [] (passed_of g done)
+  pub beside : OnlyPosts [] done.start (passed_of g done)

@@ -1,7 +1,7 @@
 use Rattle.serve.proofs.Words.{ap, IsAlone, IsTied, new_view, refl, Seats, subst, sym, thread_calls, [], ∥∥₁_map, ◌∙◌, ◌≡◌}
 use Rattle.pool.specs.Share.{view_by}
 use Rattle.serve.proofs.OneEventMore.{opens_new}
-use Rattle.serve.proofs.PostsBehind.{posting_view, found_none, new_posts}
+use Rattle.serve.proofs.PostsBehind.{posting_view, found_none, beside_none, new_posts}
 use Rattle.serve.proofs.SentAlone.{none_sent}
 use Rattle.serve.proofs.Tying.{tied_new}
 use Rattle.serve.proofs.loop_thread.LoopThread.new.Goals as goal
@@ -32,5 +32,6 @@ returns-clause-told g c =
       behind = record {
         posts = new_posts place.claims.now place.seat.loop_no _ c.new-2.result.core.loop.shared.loop_seat seat;
         found = found_none c.new-2.result.core.setting done.0.events done.0.start c.new-2.result.core.loop done.0.history done.1;
+        beside = beside_none c.new-2.result.core.setting done.0.events done.0.start c.new-2.result.core.loop done.0.history done.1;
       };
     })

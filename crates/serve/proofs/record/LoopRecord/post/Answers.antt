@@ -18,6 +18,7 @@ returns-clause-posts c =
     record {
       moves = moves_beside _ _ c.post.ensures.setting view told.1 told.2 refl refl;
       posts = posted_or_not _ _ _ c.post.result told.0.0;
+      taker = told.0.1;
     }
 
 pub returns-clause-goes : goal.returns-clause-goes

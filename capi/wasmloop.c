@@ -44,6 +44,7 @@ uint32_t wasmloop_rt_export_number(wasmloop_handle *, const uint8_t *, size_t, u
 uint32_t wasmloop_rt_call_at(wasmloop_handle *, uint64_t, const uint64_t *, size_t, const wasmloop_call_limits *, wasmloop_ended *);
 uint32_t wasmloop_rt_call_begin(wasmloop_handle *, const uint8_t *, size_t, const uint64_t *, size_t, const wasmloop_call_limits *);
 uint32_t wasmloop_rt_call_run_for(wasmloop_handle *, uint64_t, uint32_t *, wasmloop_ended *);
+uint32_t wasmloop_rt_call_end(wasmloop_handle *, wasmloop_ended *);
 uint32_t wasmloop_rt_read(wasmloop_handle *, uint32_t, uint8_t *, size_t);
 uint32_t wasmloop_rt_write(wasmloop_handle *, uint32_t, const uint8_t *, size_t);
 uint32_t wasmloop_rt_size(wasmloop_handle *, uint64_t *);
@@ -266,6 +267,10 @@ int wasmloop_call_begin(wasmloop_handle *instance, const char *name, const uint6
 
 int wasmloop_call_run_for(wasmloop_handle *instance, uint64_t units, uint32_t *over, wasmloop_ended *ended) {
     return instance && over && ended ? (int)wasmloop_rt_call_run_for(instance, units, over, ended) : WASMLOOP_NULL;
+}
+
+int wasmloop_call_end(wasmloop_handle *instance, wasmloop_ended *ended) {
+    return instance && ended ? (int)wasmloop_rt_call_end(instance, ended) : WASMLOOP_NULL;
 }
 
 int wasmloop_size(wasmloop_handle *handle, uint64_t *bytes) {

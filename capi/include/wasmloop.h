@@ -233,7 +233,8 @@ int wasmloop_call_at(wasmloop_handle *instance, uint64_t number, const uint64_t 
 
 /* Begins a call by name, to be run in slices. It runs nothing yet, and does all the allocation. NONE, ARGUMENTS, RANGE: as for wasmloop_call.
  * Until the call is over you may drop the instance and inspect it: wasmloop_size, wasmloop_read, wasmloop_global, and wasmloop_stop,
- * wasmloop_stop_places and wasmloop_stop_told, which report where it stands. Every other call on it but wasmloop_call_run_for returns KIND. */
+ * wasmloop_stop_places and wasmloop_stop_told, which report where it stands. Every other call on it but wasmloop_call_run_for
+ * and wasmloop_call_end returns KIND. */
 int wasmloop_call_begin(wasmloop_handle *instance, const char *name, const uint64_t *args, size_t count, const wasmloop_call_limits *limits);
 
 /* Runs a slice of the call that wasmloop_call_begin began, in any thread: at most `units` units of fuel, at least 1. Sets *over to 1 if the
@@ -241,6 +242,11 @@ int wasmloop_call_begin(wasmloop_handle *instance, const char *name, const uint6
  * if it has used all the units and has fuel left: it may continue, in this thread or another. RANGE: `units` is 0. KIND: no call is in
  * progress. In no other case is *over or *ended written. */
 int wasmloop_call_run_for(wasmloop_handle *instance, uint64_t units, uint32_t *over, wasmloop_ended *ended);
+
+/* Ends the call that wasmloop_call_begin began, before it is over, and keeps the instance: *ended is SPENT, with the fuel that the call has
+ * used. The memory and the globals are those of wasmloop_call with just so much fuel, wasmloop_stop reports where the call stood, or NONE if
+ * nothing of it has run, and you may call the instance again. KIND: no call is in progress; then *ended is not written. */
+int wasmloop_call_end(wasmloop_handle *instance, wasmloop_ended *ended);
 
 /* wasmloop_size, wasmloop_read and wasmloop_global inspect the instance of a handle: an instance as its last call left it, however that ended;
  * a loop's as its last callback left it, also the one that failed; or that of a call that is paused between two slices, as a call with just

@@ -553,7 +553,21 @@ static void begin_call(slot *it) {
     if (told("call_begin", status, wanted)) it->kind = CALLING, it->used = 0, it->fuel = limits.fuel;
 }
 
+/* Ends a call that is in progress, or tries to. */
+static void end_call(slot *it) {
+    wasmloop_ended told_of;
+    memset(&told_of, GUARD, sizeof told_of);
+    int status = CALL(wasmloop_call_end(&it->handle, &told_of));
+    if (!told("call_end", status, of_kind(it, CALLING))) { untouched("ended", &told_of, sizeof told_of); return; }
+    it->kind = INSTANCE;
+    ended_right(&told_of, it->fuel);
+    is("an ended call is spent", told_of.ending, WASMLOOP_SPENT);
+    is("an ended call's fuel", told_of.used == it->used, 1);
+    stop(it, it->used > 0);
+}
+
 static void call_for(slot *it) {
+    if (!below(16)) { end_call(it); return; }
     for (uint32_t more = below(6); more < 6; more++) {
         uint64_t units = below(16) ? below(4000) : UINT64_MAX;
         uint32_t over = GUARD;
@@ -565,7 +579,13 @@ static void call_for(slot *it) {
         if (status != WASMLOOP_OK || !over) untouched("ended", &told_of, sizeof told_of);
         if (status != WASMLOOP_OK) return;
         is("over", over <= 1, 1);
-        if (!over) { paused_calls++, it->used += units; is("a paused call's fuel", it->used < it->fuel, 1); continue; }
+        if (!over) {
+            paused_calls++, it->used += units;
+            is("a paused call's fuel", it->used < it->fuel, 1);
+            if (below(8)) continue;
+            end_call(it);
+            return;
+        }
         it->kind = INSTANCE;
         ended_right(&told_of, it->fuel);
         is("the units of its slices", told_of.used >= it->used && told_of.used - it->used <= units, 1);

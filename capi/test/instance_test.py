@@ -76,6 +76,12 @@ def in_slices(units, name, *args, **limits):
 assert in_slices(2, "add", 9) == (10, 3), in_slices(2, "add", 0)
 assert in_slices(2**64 - 1, "add", 5) == (15, 0) and two.used == 8 and two.call("add", 0) == 15
 print(fails(w.Stopped, lambda: in_slices(100, "spin", fuel=1000), ending="spent", used=1000))
+
+# a call that is stopped leaves what a call with just that fuel leaves
+call = two.begin("spin")
+assert (call.run_for(70), call.stop(), two.used, two.call("add", 0)) == (False, 70, 70, 15)
+print(fails(w.Stopped, call.result, ending="spent", used=70), fails(w.Error, call.stop, status=w.KIND))
+assert two.begin("add", 9).stop() == 0 and two.call("add", 0) == 15
 print(fails(w.Error, lambda: two.begin("absent"), status=w.NONE))
 print(fails(w.Error, lambda: two.begin("add", 1, depth=129), status=w.RANGE))
 print(fails(w.Error, lambda: in_slices(0, "add", 1), status=w.RANGE))

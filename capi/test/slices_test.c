@@ -341,6 +341,63 @@ static void call_stands(const char *name, uint64_t units, unsigned slices) {
     IS(wasmloop_drop(&it), WASMLOOP_OK);
 }
 
+/* A call that is ended has ended as one with just that fuel, and the next call is the same after both. */
+static void call_is_ended(const char *name, uint64_t units, unsigned slices) {
+    uint64_t args[1] = { 0 }, used = 0, count = 7, open = 8;
+    wasmloop_call_limits limits = { .fuel = 1000000, .depth = 64 };
+    wasmloop_handle it = instance_of(name), once = instance_of(name);
+    wasmloop_site paused[64], stopped[64];
+    wasmloop_ended ended, whole;
+    uint32_t over = 0;
+    memset(paused, 0, sizeof paused);
+    memset(stopped, 0, sizeof stopped);
+    IS(wasmloop_call_begin(&it, "uv_work", args, 1, &limits), WASMLOOP_OK);
+    for (unsigned k = 0; k < slices; k++) {
+        IS(wasmloop_call_run_for(&it, units, &over, &ended), WASMLOOP_OK);
+        IS(over, 0);
+        used += units;
+    }
+    IS(wasmloop_call_end(&it, &ended), WASMLOOP_OK);
+    limits.fuel = used;
+    IS(wasmloop_call(&once, "uv_work", args, 1, &limits, &whole), WASMLOOP_OK);
+    IS(whole.ending, WASMLOOP_SPENT);
+    IS(memcmp(&ended, &whole, sizeof ended), 0);
+    IS(have_one_memory(&it, &once), 1);
+    IS(wasmloop_stop(&once, stopped, 64, &open), WASMLOOP_OK);
+    IS(wasmloop_stop(&it, paused, 64, &count), slices ? WASMLOOP_OK : WASMLOOP_NONE);
+    if (slices) IS(count == open && memcmp(paused, stopped, sizeof paused) == 0, 1);
+    limits.fuel = 1000000;
+    IS(wasmloop_call(&it, "uv_work", args, 1, &limits, &ended), WASMLOOP_OK);
+    IS(wasmloop_call(&once, "uv_work", args, 1, &limits, &whole), WASMLOOP_OK);
+    IS(memcmp(&ended, &whole, sizeof ended), 0);
+    IS(have_one_memory(&it, &once), 1);
+    IS(wasmloop_drop(&it), WASMLOOP_OK);
+    IS(wasmloop_drop(&once), WASMLOOP_OK);
+}
+
+/* when there is no call to be ended */
+static void no_call_is_ended(void) {
+    static const wasmloop_call_limits limits = { 1000000, 64, 0 };
+    wasmloop_handle it = instance_of("sha256.wasm"), none = WASMLOOP_HANDLE_INIT, module = module_of("sha256.wasm");
+    wasmloop_ended ended;
+    uint64_t args[1] = { 0 };
+    uint32_t over = 0;
+    memset(&ended, 0xab, sizeof ended);
+    IS(wasmloop_call_end(&it, &ended), WASMLOOP_KIND);
+    IS(wasmloop_call_end(&module, &ended), WASMLOOP_KIND);
+    IS(wasmloop_call_end(&none, &ended), WASMLOOP_EMPTY);
+    IS(wasmloop_call_end(NULL, &ended), WASMLOOP_NULL);
+    IS(wasmloop_call_end(&it, NULL), WASMLOOP_NULL);
+    for (size_t k = 0; k < sizeof ended; k++) IS(((uint8_t *)&ended)[k], 0xab);
+    IS(wasmloop_call_begin(&it, "uv_work", args, 1, &limits), WASMLOOP_OK);
+    IS(wasmloop_call_end(&it, NULL), WASMLOOP_NULL);
+    IS(wasmloop_call_run_for(&it, UINT64_MAX, &over, &ended), WASMLOOP_OK);
+    IS(over, 1);
+    IS(wasmloop_call_end(&it, &ended), WASMLOOP_KIND);
+    IS(wasmloop_drop(&it), WASMLOOP_OK);
+    IS(wasmloop_drop(&module), WASMLOOP_OK);
+}
+
 /* a module whose uv_work copies 65,536 bytes in, as often as its operation says, and returns 7 */
 static const uint8_t copier[] = {
     0x00, 0x61, 0x73, 0x6d, 0x01, 0x00, 0x00, 0x00, 0x01, 0x0d, 0x02, 0x60, 0x03, 0x7f, 0x7f, 0x7f, 0x01, 0x7f, 0x60, 0x01, 0x7f, 0x01, 0x7f, /* types */
@@ -393,11 +450,13 @@ int main(int argc, char **argv) {
         calls_agree(files[k], "uv_work", 1, 20000, 1);
         for (uint64_t fuel = 0; fuel < 12; fuel++) calls_agree(files[k], "uv_work", 1, fuel, 64);
         for (uint64_t units = 1; units < 100; units += 7) call_stands(files[k], units, 50);
+        for (unsigned slices = 0; slices < 20; slices++) call_is_ended(files[k], 1 + 3 * slices, slices);
     }
     calls_agree("countdown.wasm", "uv_main", 0, 20000, 64);
     paused();
     dropped();
     copies_end_slices();
     paused_call();
+    no_call_is_ended();
     return all_hold();
 }

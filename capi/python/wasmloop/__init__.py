@@ -317,7 +317,7 @@ def _why(status: int, call: str, handles: List[_Handle]) -> Optional[str]:
     if status == KIND and handles[0].kind == "loop" and call == "write":
         return "the memory of a loop can only be read"
     if status == KIND and handles[0].kind == "instance":
-        return "no call is in progress" if call == "call_run_for" else "a call is in progress"
+        return "no call is in progress" if call in ("call_run_for", "call_end") else "a call is in progress"
     if status == NONE and job:
         return f"the job has no reply: {_ENDED[_about_of(job).outcome]}"
     return None
@@ -830,6 +830,16 @@ class Call:
         if over.value:
             self._ended = ended
         return over.value == 1
+
+    def stop(self) -> int:
+        """Ends the call before it is over, and returns the fuel that it has used. The instance keeps its memory and globals, as a call with just so much
+        fuel leaves them, and may be called again; result then raises Stopped."""
+        if self._ended is not None:
+            raise Error(KIND, "the call is over")
+        ended = _Ended()
+        _call("call_end", self._instance.handle, ended)
+        self._ended, self._instance.used = ended, ended.used
+        return int(ended.used)
 
     def result(self) -> Union[None, int, Tuple[int, ...]]:
         """What Instance.call returns or raises, once the call is over."""

@@ -295,6 +295,7 @@ extern "C" {
     ) -> i32;
     fn wasmloop_call_begin(instance: *mut Handle, name: *const c_char, args: *const u64, count: usize, limits: *const CallLimits) -> i32;
     fn wasmloop_call_run_for(instance: *mut Handle, units: u64, over: *mut u32, ended: *mut Ended) -> i32;
+    fn wasmloop_call_end(instance: *mut Handle, ended: *mut Ended) -> i32;
     fn wasmloop_size(handle: *mut Handle, bytes: *mut u64) -> i32;
     fn wasmloop_read(handle: *mut Handle, at: u32, into: *mut u8, length: usize) -> i32;
     fn wasmloop_write(instance: *mut Handle, at: u32, from: *const u8, length: usize) -> i32;
@@ -716,7 +717,8 @@ impl Instance {
         ended.returned()
     }
 
-    /// Begins a call to be run in slices; nothing runs yet. Until it is over, you may inspect the instance; every other call but `run_for` fails.
+    /// Begins a call to be run in slices; nothing runs yet. Until it is over, you may inspect the instance; every other call but `run_for` and `end_call`
+    /// fails.
     pub fn begin(&mut self, name: &str, args: &[u64], fuel: u64, depth: u32) -> Result<(), Error> {
         let (told, limits) = (export(name)?, call_limits(fuel, depth)?);
         let status = unsafe { wasmloop_call_begin(&mut self.0, told.as_ptr(), args.as_ptr(), args.len(), &limits) };
@@ -732,6 +734,16 @@ impl Instance {
             status => done(status)?,
         }
         if over == 1 { ended.returned().map(Some) } else { Ok(None) }
+    }
+
+    /// Ends that call before it is over, and returns the fuel that it has used. The instance keeps its memory and globals, as a call with just so much
+    /// fuel leaves them, and may be called again.
+    pub fn end_call(&mut self) -> Result<u64, Error> {
+        let mut ended = Ended::default();
+        match unsafe { wasmloop_call_end(&mut self.0, &mut ended) } {
+            KIND => Err(Error::State { status: KIND, why: "no call is in progress" }),
+            status => done(status).map(|()| ended.used),
+        }
     }
 
     /// The value of the global exported under a name; `None` if there is none. This, `size` and `read` also answer while a call is in progress:

@@ -217,6 +217,11 @@ fn an_instance_keeps_its_memory() {
     assert_eq!(said(it.run_for(0)), "units 0 is out of range: expected 1 to 18446744073709551615");
     assert_eq!(it.run_for(1_000).unwrap().unwrap().results(), &[1022]);
     assert_eq!(said(it.run_for(1)), "no call is in progress");
+    assert_eq!(said(it.end_call()), "no call is in progress");
+    it.begin("add", &[10], 1_000_000, 64).unwrap();
+    assert!(it.run_for(1).unwrap().is_none());
+    assert_eq!(it.end_call().unwrap(), 1);
+    assert_eq!(said(it.run_for(1)), "no call is in progress");
     assert_eq!(said(it.begin("absent", &[], 1, 64)), "no function is exported as \"absent\"");
     assert!(it.global("absent").unwrap().is_none());
     assert!(it.call("add", &[0], 1_000_000, 64).is_ok() && it.stop().unwrap().is_empty());

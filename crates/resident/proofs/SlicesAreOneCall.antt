@@ -1,5 +1,5 @@
 -- A call of an instance in slices is a call of it.
-use Rattle.resident.proofs.Words.{ap, arith, Caller, CallPlace, CallsInstance, CallUnderway, Ended, Halt, IfSome, Import, Inside, IsSomeCall, KeptInstance}
+use Rattle.resident.proofs.Words.{ap, arc_value, arith, call_underway, Caller, CallPlace, CallsInstance, CallUnderway, Ended, Halt, IfSome, Import, Inside, IsSomeCall, KeptInstance}
 use Rattle.resident.proofs.Words.{List, memory_of, Names, None, Option, Paused, refl, SideTable, slice_get, Some, stop_of, Store, Value, ℕ, ◌∙◌, ◌≡◌, ◌≤◌}
 use Rattle.std.proofs.Common.{◌<◌, length}
 use Rattle.limits.specs.declared.TheConstants.{MAX_DEPTH}
@@ -14,7 +14,8 @@ use Rattle.interp.specs.Slices.{RunIsPaused, IsSomePaused, RunIsOver, RunStandsA
 use Rattle.resident.specs.NoHost.{IsMinusOne, types_of_imports}
 use Rattle.resident.specs.Underway.{HasCome, ComesTo, used_at, used_by}
 use Rattle.resident.specs.Slices.{CallIsOver as IsOverCall, CallStandsAt}
-use Rattle.resident.specs.Inner.Going.{paused_at}
+use Rattle.resident.specs.Inner.Going.{last_at, paused_at}
+use Rattle.interp.specs.declared.machine.Machine.{Machine}
 use Rattle.resident.proofs.AnyHost.{refuses, paused_seen, paused_unseen}
 use Rattle.resident.proofs.Refused.{called}
 
@@ -44,7 +45,7 @@ module _ (loaded : Loaded) (tables : List SideTable) (slots : List ℕ) (frames 
   }
 
   -- where a call that has come here stands
-  stands_so : (a : KeptInstance) (d fuel f : ℕ) (args : List Value) → HasCome a d fuel f args now
+  pub stands_so : (a : KeptInstance) (d fuel f : ℕ) (args : List Value) → HasCome a d fuel f args now
       → RunStandsAt loaded.contents paused.depth (refuses {H = Unit {0}}) paused.function a.store tt args paused.used store tt paused.last frames
   stands_so a d fuel f args come = (paused_seen loaded.contents tables a.store store args fuel paused slots frames tt come.comes.2).stands
 
@@ -125,6 +126,25 @@ module _ (loaded : Loaded) (tables : List SideTable) (slots : List ℕ) (frames 
             },
             omega (arith, there.paid, left),
           )
+
+-- where a call stands, whatever it is of
+module _ (loaded : Loaded) (state : Store) (machine : Machine) where
+  pub place_stands : (place : CallPlace) → IsSomeCall (call_underway loaded state machine place)
+      → CallStandsAt (call_underway loaded state machine place) (stop_of (last_at place) machine.frames.items)
+  place_stands (Import function depth) some = refl
+  place_stands (Inside paused) some = stands_at loaded (arc_value machine.tables) machine.slots machine.frames.items state paused some
+
+  pub place_shallow : (place : CallPlace) → IsSomeCall (call_underway loaded state machine place) → MAX_DEPTH ≤ length machine.frames.items
+      → IfSome (last_at place) (λ l. l.depth ≤ MAX_DEPTH)
+  place_shallow (Import function depth) some room = tt
+  place_shallow (Inside paused) (a, d, fuel, f, args, come) room =
+      shallow paused.last a.store args
+      (stands_so loaded (arc_value machine.tables) machine.slots machine.frames.items state paused a d fuel f args come) where
+    shallow : (last : Option Last) (s : Store) (args : List Value)
+        → RunStandsAt loaded.contents paused.depth (refuses {H = Unit {0}}) paused.function s tt args paused.used state tt last machine.frames.items
+        → IfSome last (λ l. l.depth ≤ MAX_DEPTH)
+    shallow None s args stands = tt
+    shallow (Some last) s args stands = stands.0
 
 -- An import is asked. Its instance stays as it was.
 module _ (c : CallUnderway) (none : c.place ≡ None) (v : Loaded) (same : v ≡ c.loaded) (number : ℕ) (is : number ≡ c.function)

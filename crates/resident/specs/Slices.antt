@@ -35,3 +35,10 @@ CallStandsAt c (Some stop) =
     (a : KeptInstance) (depth fuel function : ℕ) (args : List Value) → HasCome a depth fuel function args c
     → CallsInstance a depth (used_by c) function args (record { ending = Spent; used = used_by c })
     (record { loaded = c.loaded; store = c.store; stop = Some stop })
+
+-- A call under way is ended: as spent, with the fuel that it has used. The instance keeps its store, and stops where the call stood.
+pub record EndsCall (c : CallUnderway) (b : KeptInstance) (ended : Ended) : Type 0 where
+  pub spent : ended ≡ record { ending = Spent; used = used_by c }
+  pub same : b.loaded ≡ c.loaded
+  pub store : b.store ≡ c.store
+  pub stands : CallStandsAt c b.stop

@@ -7,10 +7,10 @@ ghost use Rattle.instance.specs.Storing.{IsStoreOf};
 ghost use Rattle.instance.specs.Stops.{Halt};
 ghost use Rattle.reduction.specs.Invoking.{TakesArguments};
 ghost use Rattle.reduction.specs.Run.{as_operands};
-ghost use Rattle.resident.specs.Slices.{CallGoesOn, CallIsOver, CallStandsAt, IsPausedAgain};
-ghost use Rattle.resident.specs.Underway.{HasCome, ComesTo, IsSomeCall, used_by};
+ghost use Rattle.resident.specs.Slices.{CallGoesOn, CallIsOver, CallStandsAt, EndsCall, IsPausedAgain};
+ghost use Rattle.resident.specs.Underway.{HasCome, ComesTo, IsSomeCall, used_at, used_by};
 ghost use Rattle.interp.specs.Machines.{MachineFits};
-ghost use Rattle.resident.specs.Inner.Going.{call_underway, inside_call, kept, paused_at};
+ghost use Rattle.resident.specs.Inner.Going.{call_underway, inside_call, kept, last_at, on_machine, paused_at};
 
 use crate::no_host::{NoHost, answer};
 use crate::resident::Resident;
@@ -114,6 +114,23 @@ fn begin_call(machine: &mut Machine, valid: &Valid, state: &State, call: &Functi
     }
     let host = NoHost::new(valid);
     CallPlace::Inside(machine.begin(valid, state, &host, call))
+}
+
+/// Gives up a call on its machine, and returns the fuel that it has used.
+fn give_up(machine: &mut Machine, place: &CallPlace) -> u64
+    ensures machine { machine.new ≡ on_machine machine.old (last_at place.now) }
+    ensures used { result ≡ used_at (paused_at place.now) }
+{
+    match place {
+        CallPlace::Import(_, _) => {
+            machine.last = None;
+            0
+        }
+        CallPlace::Inside(paused) => {
+            machine.give_up(paused);
+            paused.used()
+        }
+    }
 }
 
 /// Goes on with a call of a function of the module for at most the units of the slice. Where it is over then, its ending is told.
@@ -225,6 +242,27 @@ impl Calling {
         ensures stands { (stop : Option Halt) × CallStandsAt self.now stop }
     {
         &self.state
+    }
+
+    /// Ends the call where it stands: as spent, with the fuel that it has used. The instance is left as a call with just so much fuel leaves it,
+    /// stops where the call stood, and may be called again. Where nothing of the call has run, it stops nowhere.
+    pub fn end(self) -> (Resident, Ended)
+        ensures { EndsCall self result.0 result.1 }
+    {
+        let Calling {
+            linked,
+            state,
+            machine,
+            place,
+        } = self;
+        let mut machine = machine;
+        let used = give_up(&mut machine, &place);
+        let ended = Ended {
+            ending: Ending::Spent,
+            used,
+        };
+        let stack = machine.into_stack();
+        (Resident::of_parts(linked, state, stack), ended)
     }
 
     /// Asks the import of which it is.

@@ -3,7 +3,8 @@ use Rattle.std.specs.Prelude.{◌≡◌, ◌⊎◌, ℕ, List, Option, Some, Non
 use Rattle.syntax.specs.declared.types.Value.{Value}
 use Rattle.resident.specs.Calls.{KeptInstance, ExportsFirst, ExportsNoFunction}
 use Rattle.resident.specs.Underway.{CallUnderway, HasCome, used_by}
-use Rattle.resident.specs.Slices.{CallGoesOn}
+use Rattle.resident.specs.Slices.{CallGoesOn, EndsCall}
+use Rattle.events.specs.declared.ended.Ended.{Ended}
 use Rattle.resident.specs.declared.calling.Going.{Going}
 use Rattle.resident.specs.declared.calling.Going.TheVariants.{Over, Paused}
 use Rattle.wasmloop_c.specs.Calls.{OnHandle}
@@ -58,3 +59,16 @@ RunsCall old new units was over before told status =
 abbrev pub RunsHeldCall : (old new : Option Thing) → (units was over : ℕ) → (before told : CallEnded) → (status : ℕ) → Type 0
 RunsHeldCall old new units was over before told status =
     OnHandle old new status ((over ≡ was) × (told ≡ before)) (λ t u. RunsCall t u units was over before told status)
+
+-- A call under way is ended: it is told as spent, with the fuel that it has used, and its instance stands where the call stood. What is no
+-- call under way stays.
+abbrev pub EndsStage : (old new : InstanceStage) → (before told : CallEnded) → (status : ℕ) → Type 0
+EndsStage (stage.Calling call) new before told status =
+    (status ≡ OK) × ((b : KeptInstance) × (ended : Ended) × EndsCall call b ended × (new ≡ stage.Resident b) × (told ≡ call_numbers ended))
+EndsStage other new before told status = (status ≡ KIND) × (new ≡ other) × (told ≡ before)
+
+abbrev pub EndsCallOf : (old new : Thing) → (before told : CallEnded) → (status : ℕ) → Type 0
+EndsCallOf old new before told status = OnInstance old new status (told ≡ before) (λ a b. EndsStage a b before told status)
+
+abbrev pub EndsHeldCall : (old new : Option Thing) → (before told : CallEnded) → (status : ℕ) → Type 0
+EndsHeldCall old new before told status = OnHandle old new status (told ≡ before) (λ t u. EndsCallOf t u before told status)

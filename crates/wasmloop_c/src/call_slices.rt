@@ -2,7 +2,7 @@
 
 ghost use Rattle.std.specs.Prelude.{◌≡◌, ◌≤◌, ◌<◌, ◌⊎◌};
 ghost use Rattle.limits.specs.declared.TheConstants.{MAX_DEPTH};
-ghost use Rattle.wasmloop_c.specs.CallSlices.{BeginsCall, BeginsHeldCall, BeginsStage, LeftByCall, RunsCall, RunsHeldCall, RunsStage};
+ghost use Rattle.wasmloop_c.specs.CallSlices.{BeginsCall, BeginsHeldCall, BeginsStage, EndsCallOf, EndsHeldCall, EndsStage, LeftByCall, RunsCall, RunsHeldCall, RunsStage};
 ghost use Rattle.wasmloop_c.specs.declared.thing.InstanceStage.TheVariants as stage;
 
 use crate::checked::CheckedLimits;
@@ -152,4 +152,41 @@ pub extern "C" fn wasmloop_rt_call_run_for(
         return RANGE;
     }
     on!(handle, alloc, held => run_for(&mut held, units, over, told))
+}
+
+fn end_stage(stage: InstanceStage, told: &mut CallEnded) -> (InstanceStage, u32)
+    ensures { EndsStage stage result.0 told.old told.new result.1 }
+{
+    match stage {
+        InstanceStage::Calling(call) => {
+            let (resident, ended) = call.end();
+            told.write(&ended);
+            (InstanceStage::Resident(resident), OK)
+        }
+        other => (other, KIND),
+    }
+}
+
+fn end(thing: &mut Thing, told: &mut CallEnded) -> u32
+    ensures { EndsCallOf thing.old thing.new told.old told.new result }
+{
+    let Thing::Instance(stage) = thing else {
+        return KIND;
+    };
+    let taken = replace(&mut **stage, InstanceStage::Gone);
+    let (left, status) = end_stage(taken, told);
+    **stage = left;
+    status
+}
+
+/// Ends the call of an instance that is in progress, as spent with the fuel that it has used. The instance may be called again.
+#[unsafe(no_mangle)]
+pub extern "C" fn wasmloop_rt_call_end(
+    alloc: Global,
+    handle: &mut Handle,
+    told: &mut CallEnded,
+) -> u32
+    ensures { EndsHeldCall handle.old.raw.value handle.new.raw.value told.old told.new result }
+{
+    on!(handle, alloc, held => end(&mut held, told))
 }

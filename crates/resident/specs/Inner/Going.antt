@@ -5,6 +5,7 @@ use Rattle.syntax.specs.Loaded.{Loaded}
 use Rattle.instance.specs.Store.{Store}
 use Rattle.instance.specs.Storing.{IsStoreOf}
 use Rattle.instance.specs.Stops.{stop_of}
+use Rattle.instance.specs.declared.stack.Last.{Last}
 use Rattle.interp.specs.declared.machine.Machine.{Machine}
 use Rattle.interp.specs.declared.paused.Paused.{Paused}
 use Rattle.interp.specs.Machines.{MachineFits}
@@ -25,6 +26,15 @@ depth_of (Inside paused) = paused.depth
 abbrev pub paused_at : CallPlace → Option Paused
 paused_at (Import function depth) = None
 paused_at (Inside paused) = Some paused
+
+-- where it stands, once something of it has run
+abbrev pub last_at : CallPlace → Option Last
+last_at (Import function depth) = None
+last_at (Inside paused) = paused.last
+
+-- a machine that says that its last call was over there
+abbrev pub on_machine : Machine → Option Last → Machine
+on_machine machine last = record { tables = machine.tables; slots = machine.slots; frames = machine.frames; last = last }
 
 -- what contracts see of it
 abbrev pub call_underway : Loaded → Store → Machine → CallPlace → CallUnderway

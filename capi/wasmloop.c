@@ -45,6 +45,7 @@ uint32_t wasmloop_rt_call_at(wasmloop_handle *, uint64_t, const uint64_t *, size
 uint32_t wasmloop_rt_call_begin(wasmloop_handle *, const uint8_t *, size_t, const uint64_t *, size_t, const wasmloop_call_limits *);
 uint32_t wasmloop_rt_call_run_for(wasmloop_handle *, uint64_t, uint32_t *, wasmloop_ended *);
 uint32_t wasmloop_rt_call_end(wasmloop_handle *, wasmloop_ended *);
+uint32_t wasmloop_rt_export_at(wasmloop_handle *, uint64_t, char *, size_t, wasmloop_listed *, wasmloop_type *);
 uint32_t wasmloop_rt_read(wasmloop_handle *, uint32_t, uint8_t *, size_t);
 uint32_t wasmloop_rt_write(wasmloop_handle *, uint32_t, const uint8_t *, size_t);
 uint32_t wasmloop_rt_size(wasmloop_handle *, uint64_t *);
@@ -236,6 +237,13 @@ int wasmloop_export_number(const wasmloop_handle *module, const char *name, uint
     if (!module || !name || !number) return WASMLOOP_NULL;
     wasmloop_handle shared = *module;
     return (int)wasmloop_rt_export_number(&shared, (const uint8_t *)name, length_of(name), number);
+}
+
+int wasmloop_export_at(const wasmloop_handle *module, uint64_t number, char *name, size_t room, wasmloop_listed *listed, wasmloop_type *type) {
+    if (!module || (!name && room) || !listed || !type) return WASMLOOP_NULL;
+    if (room > PTRDIFF_MAX) return WASMLOOP_RANGE;
+    wasmloop_handle shared = *module;
+    return (int)wasmloop_rt_export_at(&shared, number, room ? name : (char *)&nothing, room, listed, type);
 }
 
 int wasmloop_instance(const wasmloop_handle *module, const wasmloop_call_limits *limits, wasmloop_handle *instance, wasmloop_ended *ended) {

@@ -193,6 +193,17 @@ int wasmloop_function(const wasmloop_handle *module, const char *name, wasmloop_
  * NONE: no function has that name. */
 int wasmloop_export_number(const wasmloop_handle *module, const char *name, uint64_t *number);
 
+/* An export: how many bytes its name has, and what it is. */
+typedef struct wasmloop_listed {
+    uint64_t length;
+    uint32_t kind; /* 0 a function, 1 a table, 2 a memory, 3 a global */
+    uint32_t zero; /* 0 */
+} wasmloop_listed;
+
+/* Lists the exports in the module's order, from 0 on: copies the name of export `number`, in UTF-8 and without a NUL, to `name`, at most `room` bytes
+ * of it, and writes its length and kind to *listed, and the type of a function to *type. NONE: the module has no more exports. */
+int wasmloop_export_at(const wasmloop_handle *module, uint64_t number, char *name, size_t room, wasmloop_listed *listed, wasmloop_type *type);
+
 /* The limits of a call. */
 typedef struct wasmloop_call_limits {
     uint64_t fuel;  /* in units */

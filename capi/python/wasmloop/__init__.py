@@ -195,6 +195,13 @@ class _Number(_Struct):
     number: U64
 
 
+@_fields
+class _Listed(_Struct):
+    length: U64
+    kind: U32
+    zero: U32
+
+
 class _Signature(_Struct):
     _fields_ = [("params", c.c_uint64), ("results", c.c_uint64), ("param", c.c_uint8 * 256), ("result", c.c_uint8 * 16)]
 
@@ -685,6 +692,23 @@ class Module(_Held):
         if status != OK:
             raise _failed(status, "function", self.handle)
         return [32 * it for it in told.param[: told.params]], [32 * it for it in told.result[: told.results]]
+
+    @property
+    def exports(self) -> List[Tuple[str, str, Optional[Tuple[List[int], List[int]]]]]:
+        """The exports in the module's order: the name, "function", "table", "memory" or "global", and a function's type, as `function` returns it."""
+        found: List[Tuple[str, str, Optional[Tuple[List[int], List[int]]]]] = []
+        while True:
+            name, listed, told, number = b"", _Listed(), _Signature(), c.c_uint64(len(found))
+            for _ in range(2):
+                room = c.create_string_buffer(max(1, listed.length))
+                status = _lib.wasmloop_export_at(c.byref(self.handle), number, room, c.c_size_t(listed.length), c.byref(listed), c.byref(told))
+                if status == NONE:
+                    return found
+                if status != OK:
+                    raise _failed(status, "export_at", self.handle)
+                name = room.raw[: listed.length]
+            types = [32 * it for it in told.param[: told.params]], [32 * it for it in told.result[: told.results]]
+            found.append((name.decode(), ("function", "table", "memory", "global")[listed.kind], None if listed.kind else types))
 
     def instance(self, fuel: int = 1_000_000, depth: int = 64) -> Instance:
         """A new instance, which keeps its memory from call to call."""

@@ -244,6 +244,16 @@ impl Signature {
     }
 }
 
+/// An export, as `Module::export_at` lists it.
+#[repr(C)]
+#[derive(Clone, Copy, Debug, Default)]
+pub struct Listed {
+    length: u64,
+    /// 0 a function, 1 a table, 2 a memory, 3 a global.
+    pub kind: u32,
+    zero: u32,
+}
+
 /// A function that a module exports, looked up once for `Instance::call_at`.
 #[derive(Clone, Debug)]
 pub struct Export {
@@ -285,6 +295,7 @@ extern "C" {
         ended: *mut Ended,
     ) -> i32;
     fn wasmloop_export_number(module: *const Handle, name: *const c_char, number: *mut u64) -> i32;
+    fn wasmloop_export_at(module: *const Handle, number: u64, name: *mut u8, room: usize, listed: *mut Listed, signature: *mut Signature) -> i32;
     fn wasmloop_call_at(
         instance: *mut Handle,
         number: u64,
@@ -517,7 +528,7 @@ fn arguments_error(module: &Module, name: &str, args: &[u64]) -> Error {
 }
 
 /// The text that a call writes; `None` if it returns `NONE`.
-fn text(call: impl Fn(*mut u8, usize, &mut u64) -> i32) -> Result<Option<String>, Error> {
+fn text(mut call: impl FnMut(*mut u8, usize, &mut u64) -> i32) -> Result<Option<String>, Error> {
     let (mut into, mut count) = (Vec::new(), 0);
     loop {
         match call(into.as_mut_ptr(), into.len(), &mut count) {
@@ -653,6 +664,17 @@ impl Module {
         let (told, mut signature) = (export(name)?, Signature { params: 0, results: 0, param: [0; 256], result: [0; 16] });
         exported(unsafe { wasmloop_function(&self.0, told.as_ptr(), &mut signature) }, name)?;
         Ok(signature)
+    }
+
+    /// The export of this number, from 0 on in the module's order: its name, its kind, and the type of a function. `None` if there are no more.
+    pub fn export_at(&self, number: u64) -> Result<Option<(String, Listed, Option<Signature>)>, Error> {
+        let (mut listed, mut signature) = (Listed::default(), Signature { params: 0, results: 0, param: [0; 256], result: [0; 16] });
+        let name = text(|into, room, count| {
+            let status = unsafe { wasmloop_export_at(&self.0, number, into, room, &mut listed, &mut signature) };
+            *count = listed.length;
+            status
+        })?;
+        Ok(name.map(|name| (name, listed, (listed.kind == 0).then_some(signature))))
     }
 
     /// The function exported under a name, for `Instance::call_at`.

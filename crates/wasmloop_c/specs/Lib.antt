@@ -5,6 +5,7 @@ pub mod Inner
 pub mod Sites
 pub mod Values
 pub mod Inspecting
+pub mod Exports
 pub mod Instances
 pub mod Signatures
 pub mod Slices

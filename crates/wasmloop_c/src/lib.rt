@@ -14,6 +14,7 @@ mod contents;
 mod copying;
 mod did;
 mod ended;
+mod exports;
 mod fault;
 mod handle;
 mod held;

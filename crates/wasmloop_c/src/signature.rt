@@ -52,7 +52,7 @@ fn copy_numbers(types: &[ValType], into: &mut [u8])
     }
 }
 
-fn numbers(func_type: &FuncType) -> Signature
+pub fn numbers(func_type: &FuncType) -> Signature
     ensures { result ≡ type_numbers func_type.now }
 {
     let params = func_type.params.as_slice();

@@ -44,6 +44,7 @@ uint32_t wasmloop_rt_export_number(wasmloop_handle *, const uint8_t *, size_t, u
 uint32_t wasmloop_rt_call_at(wasmloop_handle *, uint64_t, const uint64_t *, size_t, const wasmloop_call_limits *, wasmloop_ended *);
 uint32_t wasmloop_rt_call_begin(wasmloop_handle *, const uint8_t *, size_t, const uint64_t *, size_t, const wasmloop_call_limits *);
 uint32_t wasmloop_rt_call_run_for(wasmloop_handle *, uint64_t, uint32_t *, wasmloop_ended *);
+uint32_t wasmloop_rt_call_for(wasmloop_handle *, uint64_t, const uint64_t *, size_t, const wasmloop_call_limits *, uint64_t, uint32_t *, wasmloop_ended *);
 uint32_t wasmloop_rt_call_end(wasmloop_handle *, wasmloop_ended *);
 uint32_t wasmloop_rt_export_at(wasmloop_handle *, uint64_t, char *, size_t, wasmloop_listed *, wasmloop_type *);
 uint32_t wasmloop_rt_read(wasmloop_handle *, uint32_t, uint8_t *, size_t);
@@ -275,6 +276,13 @@ int wasmloop_call_begin(wasmloop_handle *instance, const char *name, const uint6
 
 int wasmloop_call_run_for(wasmloop_handle *instance, uint64_t units, uint32_t *over, wasmloop_ended *ended) {
     return instance && over && ended ? (int)wasmloop_rt_call_run_for(instance, units, over, ended) : WASMLOOP_NULL;
+}
+
+int wasmloop_call_for(wasmloop_handle *instance, uint64_t number, const uint64_t *arguments, size_t count, const wasmloop_call_limits *limits,
+    uint64_t units, uint32_t *over, wasmloop_ended *ended) {
+    if (!instance || !limits || !over || !ended || (!arguments && count)) return WASMLOOP_NULL;
+    if (count > PTRDIFF_MAX / sizeof *arguments) return WASMLOOP_RANGE;
+    return (int)wasmloop_rt_call_for(instance, number, count ? arguments : &nothing, count, limits, units, over, ended);
 }
 
 int wasmloop_call_end(wasmloop_handle *instance, wasmloop_ended *ended) {

@@ -254,7 +254,14 @@ int wasmloop_call_begin(wasmloop_handle *instance, const char *name, const uint6
  * progress. In no other case is *over or *ended written. */
 int wasmloop_call_run_for(wasmloop_handle *instance, uint64_t units, uint32_t *over, wasmloop_ended *ended);
 
-/* Ends the call that wasmloop_call_begin began, before it is over, and keeps the instance: *ended is SPENT, with the fuel that the call has
+/* Begins a call of the function that is export `number`, as wasmloop_call_at does, and runs its first slice, as wasmloop_call_run_for does. A call that
+ * is over within `units` costs little more than wasmloop_call_at, and a function of at most 8 parameters and 1 result needs no allocation. Sets *over to 1 if
+ * the call is over; else to 0: then continue it with wasmloop_call_run_for or end it. NONE, ARGUMENTS: as for wasmloop_call_at. RANGE: the depth is not
+ * 1 to 128, or `units` is 0. KIND: a call is in progress. In no case but OK is *over written, and *ended only where *over is 1. */
+int wasmloop_call_for(wasmloop_handle *instance, uint64_t number, const uint64_t *args, size_t count, const wasmloop_call_limits *limits, uint64_t units,
+    uint32_t *over, wasmloop_ended *ended);
+
+/* Ends the call that wasmloop_call_begin or wasmloop_call_for began, before it is over, and keeps the instance: *ended is SPENT, with the fuel that the call has
  * used. The memory and the globals are those of wasmloop_call with just so much fuel, wasmloop_stop reports where the call stood, or NONE if
  * nothing of it has run, and you may call the instance again. KIND: no call is in progress; then *ended is not written. */
 int wasmloop_call_end(wasmloop_handle *instance, wasmloop_ended *ended);

@@ -226,6 +226,25 @@ static struct left called_for(wasmloop_handle *it, const char *name, size_t coun
     return left;
 }
 
+static struct left called_at_first(wasmloop_handle *it, uint64_t number, size_t count, const wasmloop_call_limits *limits, uint64_t units) {
+    static const uint64_t args[1] = { 3 };
+    struct left left;
+    uint32_t over = 7;
+    uint64_t used = 0;
+    memset(&left, 0, sizeof left);
+    IS(wasmloop_call_for(it, number, args, count, limits, units, &over, &left.ended), WASMLOOP_OK);
+    while (over == 0) {
+        used += units;
+        IS(left.ended.used, 0); /* (nothing is written of a call that is paused) */
+        IS(wasmloop_call_for(it, number, args, count, limits, units, &over, &left.ended), WASMLOOP_KIND);
+        IS(wasmloop_call_run_for(it, units, &over, &left.ended), WASMLOOP_OK);
+    }
+    IS(over, 1);
+    IS(used <= left.ended.used && left.ended.used - used <= units, 1);
+    look(it, &left);
+    return left;
+}
+
 /* two calls, the second over what the first one has left */
 static void calls_agree(const char *file, const char *name, size_t count, uint64_t fuel, uint32_t depth) {
     static const uint64_t lengths[] = { 1, 2, 3, 7, 64, 1000, 1000000, UINT64_MAX };
@@ -238,6 +257,15 @@ static void calls_agree(const char *file, const char *name, size_t count, uint64
         IS(memcmp(&first, &left, sizeof left), 0);
         left = called_for(&it, name, count, &limits, lengths[k]);
         IS(memcmp(&second, &left, sizeof left), 0);
+        wasmloop_handle module = module_of(file), other = instance_of(file);
+        uint64_t number = 7;
+        IS(wasmloop_export_number(&module, name, &number), WASMLOOP_OK);
+        left = called_at_first(&other, number, count, &limits, lengths[k]);
+        IS(memcmp(&first, &left, sizeof left), 0);
+        left = called_at_first(&other, number, count, &limits, lengths[k]);
+        IS(memcmp(&second, &left, sizeof left), 0);
+        IS(wasmloop_drop(&module), WASMLOOP_OK);
+        IS(wasmloop_drop(&other), WASMLOOP_OK);
         IS(wasmloop_drop(&it), WASMLOOP_OK);
     }
     IS(wasmloop_drop(&once), WASMLOOP_OK);

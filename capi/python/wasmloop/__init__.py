@@ -810,6 +810,14 @@ class Instance(_Inspected):
         _call("call_begin", self.handle, _export(name), numbers, c.c_size_t(len(args)), limits)
         return Call(self, name)
 
+    def call_for(self, name: str, *args: int, units: int, fuel: int = 1_000_000, depth: int = 64) -> Call:
+        """Begins a call and runs its first slice, of at most `units` units of fuel. If it is over, result() returns what Instance.call returns;
+        else continue it with run_for, or stop it."""
+        numbers, limits, over, ended = self._words(name, args), _call_limits(fuel, depth), c.c_uint32(), _Ended()
+        _call("call_for", self.handle, self._exported(name).number, numbers, c.c_size_t(len(args)), limits,
+              c.c_uint64(_whole("units", units, 1, 2**64 - 1)), c.byref(over), ended)
+        return Call(self, name, ended if over.value else None)
+
     def _exported(self, name: str) -> _Exported:
         """An export, which is looked up once."""
         found = self._exports.get(name)
@@ -837,9 +845,14 @@ class Instance(_Inspected):
 class Call:
     """A call that Instance.begin began, to be run in slices."""
 
-    def __init__(self, instance: Instance, name: str):
-        self._instance, self._name, self._ended = instance, name, None  # type: Instance, str, Optional[_Ended]
+    def __init__(self, instance: Instance, name: str, ended: Optional[_Ended] = None):
+        self._instance, self._name, self._ended = instance, name, ended
         self._over, self._room = c.c_uint32(), _Ended()
+
+    @property
+    def over(self) -> bool:
+        """Whether the call is over."""
+        return self._ended is not None
 
     def run_for(self, units: int) -> bool:
         """Runs a slice of at most `units` units of fuel. True if the call is over, with the result that Instance.call gives."""

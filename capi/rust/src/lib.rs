@@ -306,6 +306,16 @@ extern "C" {
     ) -> i32;
     fn wasmloop_call_begin(instance: *mut Handle, name: *const c_char, args: *const u64, count: usize, limits: *const CallLimits) -> i32;
     fn wasmloop_call_run_for(instance: *mut Handle, units: u64, over: *mut u32, ended: *mut Ended) -> i32;
+    fn wasmloop_call_for(
+        instance: *mut Handle,
+        number: u64,
+        args: *const u64,
+        count: usize,
+        limits: *const CallLimits,
+        units: u64,
+        over: *mut u32,
+        ended: *mut Ended,
+    ) -> i32;
     fn wasmloop_call_end(instance: *mut Handle, ended: *mut Ended) -> i32;
     fn wasmloop_size(handle: *mut Handle, bytes: *mut u64) -> i32;
     fn wasmloop_read(handle: *mut Handle, at: u32, into: *mut u8, length: usize) -> i32;
@@ -737,6 +747,17 @@ impl Instance {
         let status = unsafe { wasmloop_call_at(&mut self.0, export.number, args.as_ptr(), args.len(), &limits, &mut ended) };
         self.called(status, &export.name, args)?;
         ended.returned()
+    }
+
+    /// Begins a call and runs its first slice, of at most `units` units of fuel. `None` if the call is not over: then go on with `run_for`, or `end_call`.
+    pub fn call_for(&mut self, export: &Export, args: &[u64], fuel: u64, depth: u32, units: u64) -> Result<Option<Ended>, Error> {
+        let (limits, mut over, mut ended) = (call_limits(fuel, depth)?, 0, Ended::default());
+        within("units", units, 1, u64::MAX)?;
+        let status = unsafe {
+            wasmloop_call_for(&mut self.0, export.number, args.as_ptr(), args.len(), &limits, units, &mut over, &mut ended)
+        };
+        self.called(status, &export.name, args)?;
+        if over == 1 { ended.returned().map(Some) } else { Ok(None) }
     }
 
     /// Begins a call to be run in slices; nothing runs yet. Until it is over, you may inspect the instance; every other call but `run_for` and `end_call`

@@ -29,7 +29,7 @@ pub use loader::{Refusal, load};
 pub use order::{Order, Outcome, Reply, Told, Trail};
 pub use phases::{Accepted, Beside, LoopCore, Shared};
 pub use places::{Part, Place, function_name, place_of_operation};
-pub use resident::{Calling, Going, Resident};
+pub use resident::{BareGoing, Calling, Going, Resident};
 pub use sentences::{explain, meaning};
 pub use serve::{
     Account, Callback, Job, JointlyServed, LoopEnding, Served, Serving, Task, Watch, serve,

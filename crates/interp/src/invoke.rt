@@ -28,7 +28,7 @@ use syntax::types::Value;
 use validate::{Valid, type_of_function};
 
 /// How many results a function has.
-fn result_count(contents: &Contents, function: u32) -> usize
+pub(crate) fn result_count(contents: &Contents, function: u32) -> usize
     ensures { result ≡ result_count contents.now function }
 {
     match type_of_function(contents, function) {
@@ -64,7 +64,7 @@ fn place_answer(answer: Option<Value>, places: &mut [Value])
 
 /// Asks the host for an import, and writes its answer, where there is one, to the first place.
 #[inline(never)]
-fn invoke_import<H: Host>(
+pub(crate) fn invoke_import<H: Host>(
     contents: &Contents,
     state: &mut State,
     host: &mut H,
@@ -89,7 +89,7 @@ fn invoke_import<H: Host>(
 /// Calls a defined function, whose callers may take the first `depth` - 1 places of `frames`, reads its results into the first places, and
 /// returns how and where the call ended.
 #[inline(always)]
-fn invoke_defined<H: Host>(
+pub(crate) fn invoke_defined<H: Host>(
     code: &ModuleCode,
     state: &mut State,
     host: &mut H,

@@ -10,11 +10,12 @@ ghost use Rattle.instance.specs.Storing.{IsStoreOf};
 ghost use Rattle.instance.specs.Stops.{stop_of};
 ghost use Rattle.reduction.specs.Hosting.{Names};
 ghost use Rattle.reduction.specs.Invoking.{TakesArguments, ReturnsTyped};
+ghost use Rattle.interp.specs.Lent.{ended_in, result_count};
 ghost use Rattle.interp.specs.Slices.{RunIsPaused, IsSomePaused, RunIsOver, IsMost, UsesAll, UsesSome};
 
 use crate::call::{FunctionCall, ModuleCode};
 use crate::host::Host;
-use crate::invoke::ended_with;
+use crate::invoke::{ended_with, result_count};
 use crate::opening::open;
 use crate::over_host::{Outermost, read_results, run_within};
 pub use crate::paused::{Paused, UNIT_BYTES};
@@ -81,9 +82,11 @@ fn most_bytes(copied: u64, units: u64) -> u64
 }
 
 /// Goes on with a call for at most the units of the slice, where each `UNIT_BYTES` that the host copies count as one. If it is over then, its
-/// ending is returned, with all fuel that it has used since it began, and where it was over is kept, unless it returned; else some fuel is left,
-/// and it stands where a run with just so much fuel as it has used is over as spent.
-pub(crate) fn go_on<H: Host>(
+/// ending is returned, with all fuel that it has used since it began, its results are in the first of the places that are lent, at least as many
+/// as the function has, and where it was over is kept, unless it returned; else some fuel is left, and it stands where a run with just so much
+/// fuel as it has used is over as spent.
+#[inline(always)]
+pub(crate) fn go_on_lent<H: Host>(
     code: &ModuleCode,
     state: &mut State,
     host: &mut H,
@@ -91,15 +94,17 @@ pub(crate) fn go_on<H: Host>(
     frames: &mut [Caller],
     ended_at: &mut Option<Last>,
     slice: &mut Slice,
-) -> Option<Ended>
+    places: &mut [Value],
+) -> Option<BareEnded>
     requires valid { ValidModule code.now.contents.now }
     requires agree { AreTables code.now.contents.now code.now.tables.now }
     requires names { Names code.now.contents.now (H.types host.old) }
     requires room { MAX_DEPTH ≤ length frames.old }
     requires paused { IsSomePaused code.now.contents.now code.now.tables.now H.moves slice.old.paused slots.old frames.old state.old host.old }
+    requires places { result_count code.now.contents.now slice.old.paused.function ≤ length places.old }
     ensures over { IfSome result (λ o. (s : Store) (before : H) (args : List Argument) (fuel : ℕ)
         → RunIsPaused code.now.contents.now code.now.tables.now H.moves s before args fuel slice.old.paused slots.old frames.old state.old host.old
-        → RunIsOver code.now.contents.now slice.old.paused.depth H.moves slice.old.paused.function s before args fuel o state.new host.new (stop_of ended_at.new frames.new)) }
+        → RunIsOver code.now.contents.now slice.old.paused.depth H.moves slice.old.paused.function s before args fuel (ended_in code.now.contents.now slice.old.paused.function o places.new) state.new host.new (stop_of ended_at.new frames.new)) }
     ensures paused { result ≡ None → (s : Store) (before : H) (args : List Argument) (fuel : ℕ)
         → RunIsPaused code.now.contents.now code.now.tables.now H.moves s before args fuel slice.old.paused slots.old frames.old state.old host.old
         → RunIsPaused code.now.contents.now code.now.tables.now H.moves s before args fuel slice.new.paused slots.new frames.new state.new host.new }
@@ -107,7 +112,7 @@ pub(crate) fn go_on<H: Host>(
     ensures call { (slice.new.paused.function ≡ slice.old.paused.function) × (slice.new.paused.depth ≡ slice.old.paused.depth) }
     ensures slice { result ≡ None → UsesAll slice.old.paused slice.old.units (H.copied host.old) (H.copied host.new) slice.new.paused }
     ensures last { IfSome result (λ o. UsesSome slice.old.paused slice.old.units o.used) }
-    ensures results { IfSome result (λ o. ReturnsTyped code.now.contents.now slice.old.paused.function o.ending) }
+    ensures results { IfSome result (λ o. ReturnsTyped code.now.contents.now slice.old.paused.function (ended_in code.now.contents.now slice.old.paused.function o places.new).ending) }
     ensures callers { IfSome result (λ _. IfSome ended_at.new (λ l. l.depth ≤ MAX_DEPTH)) }
     ensures same { result ≡ None → ended_at.new ≡ ended_at.old }
     ensures kept { IsStoreOf code.now.contents.now state.new }
@@ -144,11 +149,55 @@ pub(crate) fn go_on<H: Host>(
         return None;
     }
     *ended_at = run.last;
-    let types = outermost.types;
-    let height = place.at.sp;
-    let mut places = [Value::I32(0); MAX_RESULTS];
-    read_results(ended.ending, types, slots, height, &mut places);
-    let mut whole = ended_with(ended, &places[..types.len()]);
+    read_results(ended.ending, outermost.types, slots, place.at.sp, places);
+    let mut whole = ended;
     whole.used += paused.used;
     Some(whole)
+}
+
+/// Does what `go_on_lent` does, with room for the most results.
+pub(crate) fn go_on<H: Host>(
+    code: &ModuleCode,
+    state: &mut State,
+    host: &mut H,
+    slots: &mut Slots,
+    frames: &mut [Caller],
+    ended_at: &mut Option<Last>,
+    slice: &mut Slice,
+) -> Option<Ended>
+    requires valid { ValidModule code.now.contents.now }
+    requires agree { AreTables code.now.contents.now code.now.tables.now }
+    requires names { Names code.now.contents.now (H.types host.old) }
+    requires room { MAX_DEPTH ≤ length frames.old }
+    requires paused { IsSomePaused code.now.contents.now code.now.tables.now H.moves slice.old.paused slots.old frames.old state.old host.old }
+    ensures over { IfSome result (λ o. (s : Store) (before : H) (args : List Argument) (fuel : ℕ)
+        → RunIsPaused code.now.contents.now code.now.tables.now H.moves s before args fuel slice.old.paused slots.old frames.old state.old host.old
+        → RunIsOver code.now.contents.now slice.old.paused.depth H.moves slice.old.paused.function s before args fuel o state.new host.new (stop_of ended_at.new frames.new)) }
+    ensures paused { result ≡ None → (s : Store) (before : H) (args : List Argument) (fuel : ℕ)
+        → RunIsPaused code.now.contents.now code.now.tables.now H.moves s before args fuel slice.old.paused slots.old frames.old state.old host.old
+        → RunIsPaused code.now.contents.now code.now.tables.now H.moves s before args fuel slice.new.paused slots.new frames.new state.new host.new }
+    ensures stands { result ≡ None → IsSome slice.new.paused.last }
+    ensures call { (slice.new.paused.function ≡ slice.old.paused.function) × (slice.new.paused.depth ≡ slice.old.paused.depth) }
+    ensures slice { result ≡ None → UsesAll slice.old.paused slice.old.units (H.copied host.old) (H.copied host.new) slice.new.paused }
+    ensures last { IfSome result (λ o. UsesSome slice.old.paused slice.old.units o.used) }
+    ensures results { IfSome result (λ o. ReturnsTyped code.now.contents.now slice.old.paused.function o.ending) }
+    ensures callers { IfSome result (λ _. IfSome ended_at.new (λ l. l.depth ≤ MAX_DEPTH)) }
+    ensures same { result ≡ None → ended_at.new ≡ ended_at.old }
+    ensures kept { IsStoreOf code.now.contents.now state.new }
+    ensures copies { H.copied host.old ≤ H.copied host.new }
+    ensures types { H.types host.new ≡ H.types host.old }
+{
+    let count = result_count(code.contents, slice.paused.function);
+    let mut places = [Value::I32(0); MAX_RESULTS];
+    let ended = go_on_lent(
+        code,
+        state,
+        host,
+        slots,
+        frames,
+        ended_at,
+        slice,
+        &mut places,
+    )?;
+    Some(ended_with(ended, &places[..count]))
 }

@@ -4,4 +4,5 @@ mod NoHostNames
 mod Numbered
 mod Refused
 mod SlicesAreOneCall
+mod Through
 mod Written

@@ -1,7 +1,12 @@
 -- What the host that refuses every import, and a module's start function, bring to a call.
 use Rattle.resident.proofs.Words.{AnswersMinusOne, CallsInstance, Contents, Ended, FuncType, HasFunctionType, HostCall, KeptInstance, Lawful, List, None}
 use Rattle.resident.proofs.Words.{Some, type_of_function, Value, ℕ, ◌≡◌, ◌≤◌}
-use Rattle.std.proofs.Common.{[], ◌∷◌}
+use Rattle.std.proofs.Common.{[], ◌∷◌, length, Option, sym}
+use Rattle.std.specs.Prelude.{slice_get, option_and_then}
+use Rattle.std.proofs.lemmas.Option.{get_or_from_slice_get, slice_get_within}
+use Rattle.limits.specs.declared.TheConstants.{MAX_RESULTS}
+use Rattle.validate.specs.Typing.{function_types}
+use Rattle.validate.specs.Valid.{ValidModule}
 use Rattle.reduction.specs.Invoking.{ReturnsTyped}
 use Rattle.reduction.specs.Leading.{Leads, calling, scene}
 use Rattle.resident.specs.Calls.{AllRefused}
@@ -14,6 +19,14 @@ pub untyped : (m : Contents) (function : ℕ) (type : FuncType) → type_of_func
 untyped m function type none has =
     let some : type_of_function m function ≡ Some type = rw has.1 has.2 in
     absurd (cc)
+
+-- a valid module's functions have few results
+few_by : (m : Contents) → ValidModule m → (o : Option ℕ) (type : FuncType) → option_and_then (slice_get m.types) o ≡ Some type → length type.results ≤ MAX_RESULTS
+few_by m valid None type is = absurd (cc)
+few_by m valid (Some t) type is = rw (get_or_from_slice_get m.types t type type is) at (valid.types t type (slice_get_within m.types t type is))
+
+pub few_results : (m : Contents) → ValidModule m → (function : ℕ) (type : FuncType) → Some type ≡ type_of_function m function → length type.results ≤ MAX_RESULTS
+few_results m valid function type is = few_by m valid (slice_get (function_types m) function) type (sym is)
 
 -- a host that has no state but its module, and answers -1
 module _ {H : Type 0} where

@@ -1,6 +1,6 @@
 -- A call of an instance in slices is a call of it.
 use Rattle.resident.proofs.Words.{ap, arc_value, arith, call_underway, Caller, CallPlace, CallsInstance, CallUnderway, Ended, Halt, IfSome, Import, Inside, IsSomeCall, KeptInstance}
-use Rattle.resident.proofs.Words.{List, memory_of, Names, None, Option, Paused, refl, SideTable, slice_get, Some, stop_of, Store, Value, ℕ, ◌∙◌, ◌≡◌, ◌≤◌}
+use Rattle.resident.proofs.Words.{List, memory_of, Names, None, Option, Paused, refl, SideTable, slice_get, Some, stop_of, Store, sym, Value, ℕ, ◌∙◌, ◌≡◌, ◌≤◌}
 use Rattle.std.proofs.Common.{◌<◌, length}
 use Rattle.limits.specs.declared.TheConstants.{MAX_DEPTH}
 use Rattle.syntax.specs.Loaded.{Loaded}
@@ -16,6 +16,12 @@ use Rattle.resident.specs.Underway.{HasCome, ComesTo, used_at, used_by}
 use Rattle.resident.specs.Slices.{CallIsOver as IsOverCall, CallStandsAt}
 use Rattle.resident.specs.Inner.Going.{last_at, paused_at}
 use Rattle.interp.specs.declared.machine.Machine.{Machine}
+use Rattle.interp.specs.Lent.{result_count}
+use Rattle.interp.proofs.CountsOfResults.{count_is}
+use Rattle.std.specs.Prelude.{map}
+use Rattle.std.proofs.lemmas.List.{length-map}
+use Rattle.syntax.specs.declared.types.ValType.{ValType}
+use Rattle.validate.specs.Typing.{type_of}
 use Rattle.resident.proofs.AnyHost.{refuses, paused_seen, paused_unseen}
 use Rattle.resident.proofs.Refused.{called}
 
@@ -140,11 +146,11 @@ module _ (loaded : Loaded) (state : Store) (machine : Machine) where
   place_shallow (Inside paused) (a, d, fuel, f, args, come) room =
       shallow paused.last a.store args
       (stands_so loaded (arc_value machine.tables) machine.slots machine.frames.items state paused a d fuel f args come) where
-    shallow : (last : Option Last) (s : Store) (args : List Value)
-        → RunStandsAt loaded.contents paused.depth (refuses {H = Unit {0}}) paused.function s tt args paused.used state tt last machine.frames.items
-        → IfSome last (λ l. l.depth ≤ MAX_DEPTH)
-    shallow None s args stands = tt
-    shallow (Some last) s args stands = stands.0
+        shallow : (last : Option Last) (s : Store) (args : List Value)
+            → RunStandsAt loaded.contents paused.depth (refuses {H = Unit {0}}) paused.function s tt args paused.used state tt last machine.frames.items
+            → IfSome last (λ l. l.depth ≤ MAX_DEPTH)
+        shallow None s args stands = tt
+        shallow (Some last) s args stands = stands.0
 
 -- An import is asked. Its instance stays as it was.
 module _ (c : CallUnderway) (none : c.place ≡ None) (v : Loaded) (same : v ≡ c.loaded) (number : ℕ) (is : number ≡ c.function)
@@ -172,6 +178,20 @@ module _ (c : CallUnderway) (none : c.place ≡ None) (v : Loaded) (same : v ≡
       (omega arith) (answer_returns m c.function args at_first.0 types named at_first.1 answer fits (as_operands answer) refl) in
       as_told c.loaded c.function c.depth answered left fuel args a d f come.same come.named come.deep
       (rw (← at_first.2) calls)
+
+  -- the answer is as many results as its function has
+  pub import_count : IsSomeCall c → result_count c.loaded.contents c.function ≡ length (as_operands answer)
+  import_count (a, d, fuel, f, args, come) =
+      let at_first : ComesTo c None a.store fuel args = rw none at come.comes in
+      let m = c.loaded.contents in
+      let types = types_of_imports m in
+      let named : Names m types = rw (← same) names in
+      let fits : Answers (slice_get types c.function) answer =
+      rw (← is, ← same) typed in
+      let takes = at_first.0 in
+      let results : map type_of (as_operands answer) ≡ takes.type.results =
+      answer_returns m c.function args takes types named at_first.1 answer fits (as_operands answer) refl takes.type takes.known in
+      count_is m c.function takes.type takes.known ∙ ap (λ (ts : List ValType). length ts) (sym results) ∙ length-map (as_operands answer) type_of
 
   pub import_over : (ended : Ended) (b : KeptInstance) → ended ≡ answered → b ≡ left → (units : ℕ) → IsOverCall c units b ended
   import_over ended b e eb units =

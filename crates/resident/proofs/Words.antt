@@ -10,9 +10,9 @@ pub use Rattle.resident.specs.Calls.{CallsInstance, ExportsNoFunction, KeptInsta
 pub use Rattle.resident.specs.Inner.Going.{call_underway, inside_call}
 pub use Rattle.resident.specs.NoHost.{AnswersMinusOne}
 pub use Rattle.resident.specs.Underway.{CallUnderway, IsSomeCall}
-pub use Rattle.resident.specs.declared.calling.CallPlace.{CallPlace}
-pub use Rattle.resident.specs.declared.calling.CallPlace.TheVariants.{Import, Inside}
-pub use Rattle.std.proofs.Common.{ap, arith, List, None, Option, refl, Some, sym, ℕ, ◌∙◌, ◌≡◌, ◌≤◌}
+pub use Rattle.resident.specs.declared.kept.CallPlace.{CallPlace}
+pub use Rattle.resident.specs.declared.kept.CallPlace.TheVariants.{Import, Inside}
+pub use Rattle.std.proofs.Common.{ap, arith, List, None, Option, refl, Some, subst, sym, ℕ, ◌∙◌, ◌≡◌, ◌≤◌}
 pub use Rattle.std.specs.Arc.{arc_value}
 pub use Rattle.std.specs.Prelude.{IfSome, slice_get}
 pub use Rattle.syntax.specs.declared.contents.Contents.{Contents}

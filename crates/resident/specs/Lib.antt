@@ -1,4 +1,5 @@
 pub mod Inner
+pub mod Bare
 pub mod Calls
 pub mod NoHost
 pub mod Numbered

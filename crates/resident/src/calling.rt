@@ -1,20 +1,23 @@
 // A call of an instance in slices.
 
-ghost use Rattle.std.specs.Prelude.{◌≡◌, ◌≤◌, ℕ, Option, Some, None, IfOk, IfErr, IfSome};
+ghost use Rattle.std.specs.Prelude.{◌≡◌, ◌≤◌, ℕ, length, take, Option, Some, None, IfSome};
 ghost use Rattle.limits.specs.declared.TheConstants.{MAX_DEPTH};
 ghost use Rattle.events.specs.declared.ended.Ending.TheVariants.{Return};
 ghost use Rattle.instance.specs.Storing.{IsStoreOf};
 ghost use Rattle.instance.specs.Stops.{Halt};
 ghost use Rattle.reduction.specs.Invoking.{TakesArguments};
 ghost use Rattle.reduction.specs.Run.{as_operands};
+ghost use Rattle.interp.specs.Lent.{ended_in, result_count};
+ghost use Rattle.resident.specs.Bare.{BeginsGoing, whole_going};
 ghost use Rattle.resident.specs.Slices.{CallGoesOn, CallIsOver, CallStandsAt, EndsCall, IsPausedAgain};
 ghost use Rattle.resident.specs.Underway.{HasCome, ComesTo, IsSomeCall, used_at, used_by};
 ghost use Rattle.interp.specs.Machines.{MachineFits};
-ghost use Rattle.resident.specs.Inner.Going.{call_underway, inside_call, kept, last_at, on_machine, paused_at};
+ghost use Rattle.resident.specs.Inner.Going.{call_underway, inside_call, last_at, on_machine, paused_at, resting};
 
+use crate::kept::{CallPlace, Kept};
 use crate::no_host::{NoHost, answer};
 use crate::resident::Resident;
-use events::ended::{Ended, Ending};
+use events::ended::{BareEnded, BareEnding, Ended, Ending};
 use events::values::Values;
 use imports::Linked;
 use instance::stack::Stop;
@@ -23,38 +26,20 @@ use interp::call::FunctionCall;
 use interp::machine::Machine;
 use interp::slices::{Paused, Slice};
 use limits::MAX_DEPTH;
-use std::alloc::{AllocError, Global};
+use std::alloc::Global;
 use std::marker::Model;
-use std::sync::Arc;
 use syntax::types::Value;
 use validate::Valid;
-
-/// Where a call goes on.
-#[derive(Clone, Copy)]
-pub(crate) enum CallPlace {
-    /// This import is asked, in a call with which so many calls may stand open.
-    Import(u32, u32),
-    /// In a function of the module.
-    Inside(Paused),
-}
 
 /// A call of an instance under way, between two slices, with the instance. It may be kept, given to another thread, or dropped at any
 /// time. An import is asked in the first slice.
 pub struct Calling {
-    linked: Arc<Linked, Global>,
-    state: State,
-    machine: Machine,
-    place: CallPlace,
+    kept: Box<Kept, Global>,
 }
 
 impl Drop for Calling {
     fn drop(self) {
-        let Calling {
-            linked: _,
-            state: _,
-            machine: _,
-            place: _,
-        } = self;
+        let Calling { kept: _ } = self;
     }
 }
 
@@ -69,9 +54,9 @@ impl Model for Calling {
 
     ghost coded = { Prim.hlevel (codes, loaded_coded) };
 
-    ghost view = { λ c. call_underway (arc_value c.linked) c.state c.machine c.place };
+    ghost view = { λ c. call_underway (arc_value c.kept.value.linked) c.kept.value.state c.kept.value.machine c.kept.value.place };
 
-    ghost invariant = { λ c. CallIsGoing (arc_value c.linked) c.state c.machine c.place };
+    ghost invariant = { λ c. CallIsGoing (arc_value c.kept.value.linked) c.kept.value.state c.kept.value.machine c.kept.value.place };
 }
 
 /// What a slice leaves of a call.
@@ -79,6 +64,15 @@ impl Model for Calling {
 pub enum Going {
     /// It is over, and this is how it ended. The instance stays as it is then, and may be called again.
     Over(Resident, Ended),
+    /// It goes on from here.
+    Paused(Calling),
+}
+
+/// What a slice leaves of a call whose results are written to places that are lent.
+#[derive(Drop)]
+pub enum BareGoing {
+    /// It is over, and this is how it ended.
+    Over(Resident, BareEnded),
     /// It goes on from here.
     Paused(Calling),
 }
@@ -142,7 +136,7 @@ fn go_on_call(
 ) -> Option<Ended>
     requires runs { MachineFits valid.now.contents machine.old }
     requires some { IsSomeCall (inside_call valid.now state.old machine.old slice.old.paused) }
-    ensures over { IfSome result (CallIsOver (inside_call valid.now state.old machine.old slice.old.paused) slice.old.units (kept valid.now state.new machine.new)) }
+    ensures over { IfSome result (CallIsOver (inside_call valid.now state.old machine.old slice.old.paused) slice.old.units (resting valid.now state.new machine.new)) }
     ensures paused { result ≡ None → IsPausedAgain (inside_call valid.now state.old machine.old slice.old.paused) slice.old.units
         (inside_call valid.now state.new machine.new slice.new.paused) }
     ensures runs { MachineFits valid.now.contents machine.new }
@@ -152,21 +146,47 @@ fn go_on_call(
     machine.go_on(valid, state, &mut host, slice)
 }
 
+/// Goes on so, and writes the results of a call that returns to the first of the places that are lent.
+#[inline(always)]
+fn go_on_call_into(
+    machine: &mut Machine,
+    valid: &Valid,
+    state: &mut State,
+    slice: &mut Slice,
+    results: &mut [Value],
+) -> Option<BareEnded>
+    requires runs { MachineFits valid.now.contents machine.old }
+    requires some { IsSomeCall (inside_call valid.now state.old machine.old slice.old.paused) }
+    requires room { result_count valid.now.contents slice.old.paused.function ≤ length results.old }
+    ensures over { IfSome result (λ ended. CallIsOver (inside_call valid.now state.old machine.old slice.old.paused) slice.old.units (resting valid.now state.new machine.new)
+        (ended_in valid.now.contents slice.old.paused.function ended results.new)) }
+    ensures paused { result ≡ None → IsPausedAgain (inside_call valid.now state.old machine.old slice.old.paused) slice.old.units
+        (inside_call valid.now state.new machine.new slice.new.paused) }
+    ensures runs { MachineFits valid.now.contents machine.new }
+    ensures store { IsStoreOf valid.now.contents state.new }
+{
+    let mut host = NoHost::new(valid);
+    machine.go_on_lent(valid, state, &mut host, slice, results)
+}
+
+/// Writes an answer of an import, where there is one, to the first place.
+fn place_answer(answer: Option<Value>, results: &mut [Value])
+    requires { length (as_operands answer) ≤ length results.old }
+    ensures { take (length (as_operands answer)) results.new ≡ as_operands answer }
+{
+    if let Some(value) = answer {
+        results[0] = value;
+    }
+}
+
 impl Resident {
-    /// Begins a call of a function, to be made in slices. Nothing of it runs yet, and all memory that it takes is taken here; where that is
-    /// refused, the instance comes back.
-    pub fn begin(
-        self,
-        alloc: Global,
-        function: u32,
-        args: &[Value],
-        fuel: u64,
-        depth: u32,
-    ) -> Result<Calling, Resident>
+    /// Begins a call of a function, to be made in slices. Nothing of it runs yet. No memory is taken: the instance has the room of its calls.
+    #[inline(always)]
+    pub fn begin(self, function: u32, args: &[Value], fuel: u64, depth: u32) -> Calling
         requires typed { TakesArguments self.loaded.contents function args.now }
         requires depth { (1 ≤ depth) × (depth ≤ MAX_DEPTH) }
-        ensures begun { IfOk result (λ c. HasCome self depth fuel function args.now c × (used_by c ≡ 0)) }
-        ensures refused { IfErr result (λ same. same ≡ self) }
+        ensures begun { HasCome self depth fuel function args.now result }
+        ensures unused { used_by result ≡ 0 }
     {
         let call = FunctionCall {
             function,
@@ -174,28 +194,38 @@ impl Resident {
             fuel,
             depth,
         };
-        match self.machine(alloc) {
-            Ok(machine) => Ok(self.begin_on(machine, &call)),
-            Err(AllocError) => Err(self),
-        }
-    }
-
-    /// Begins it on this machine.
-    fn begin_on(self, machine: Machine, call: &FunctionCall) -> Calling
-        requires runs { MachineFits self.loaded.contents machine }
-        requires typed { TakesArguments self.loaded.contents call.now.function call.now.args.now }
-        requires depth { (1 ≤ call.now.depth) × (call.now.depth ≤ MAX_DEPTH) }
-        ensures { HasCome self call.now.depth call.now.fuel call.now.function call.now.args.now result × (used_by result ≡ 0) }
-    {
-        let (linked, state) = self.into_parts();
-        let mut machine = machine;
-        let place = begin_call(&mut machine, linked.valid(), &state, call);
-        Calling {
+        let mut kept = self.into_kept();
+        let Kept {
             linked,
             state,
             machine,
             place,
-        }
+        } = &mut *kept;
+        *place = begin_call(machine, linked.valid(), state, &call);
+        Calling { kept }
+    }
+
+    /// Begins a call and goes on with it for at most so many units of fuel, at least one. Where it is over then, its results are in the first of
+    /// the places that are lent, at least as many as the function has. No memory is taken, and what is over in its first slice costs little more
+    /// than `call_into`.
+    #[inline(always)]
+    pub fn call_for(
+        self,
+        function: u32,
+        args: &[Value],
+        fuel: u64,
+        depth: u32,
+        units: u64,
+        results: &mut [Value],
+    ) -> BareGoing
+        requires typed { TakesArguments self.loaded.contents function args.now }
+        requires room { result_count self.loaded.contents function ≤ length results.old }
+        requires depth { (1 ≤ depth) × (depth ≤ MAX_DEPTH) }
+        requires units { 1 ≤ units }
+        ensures { BeginsGoing self depth fuel function args.now units (whole_going self.loaded.contents function result results.new) }
+    {
+        self.begin(function, args, fuel, depth)
+            .go_on_into(units, results)
     }
 }
 
@@ -206,9 +236,22 @@ impl Calling {
         requires { 1 ≤ units }
         ensures { CallGoesOn self units result }
     {
-        match self.place {
+        match self.kept.place {
             CallPlace::Import(function, _) => self.ask(function),
             CallPlace::Inside(paused) => self.run(paused, units),
+        }
+    }
+
+    /// Goes on so, and writes the results of a call that returns to the first of the places that are lent, at least as many as its function has.
+    #[inline(always)]
+    pub fn go_on_into(self, units: u64, results: &mut [Value]) -> BareGoing
+        requires units { 1 ≤ units }
+        requires room { result_count self.loaded.contents self.function ≤ length results.old }
+        ensures { CallGoesOn self units (whole_going self.loaded.contents self.function result results.new) }
+    {
+        match self.kept.place {
+            CallPlace::Import(function, _) => self.ask_into(function, results),
+            CallPlace::Inside(paused) => self.run_into(paused, units, results),
         }
     }
 
@@ -216,9 +259,10 @@ impl Calling {
     pub fn stop(&self) -> Option<Stop<'_>>
         ensures { CallStandsAt self.now result }
     {
-        match self.place {
+        let kept = &*self.kept;
+        match kept.place {
             CallPlace::Import(_, _) => None,
-            CallPlace::Inside(paused) => self.machine.stop(&paused),
+            CallPlace::Inside(paused) => kept.machine.stop(&paused),
         }
     }
 
@@ -226,14 +270,14 @@ impl Calling {
     pub fn linked(&self) -> &Linked
         ensures { result.now ≡ self.now.loaded }
     {
-        &self.linked
+        &self.kept.linked
     }
 
     /// The bytes of its module.
     pub fn module_bytes(&self) -> &[u8]
         ensures { result.now ≡ self.now.loaded.bytes }
     {
-        self.linked.valid().module().bytes()
+        self.kept.linked.valid().module().bytes()
     }
 
     /// Its instance as it stands: as a call with just so much fuel as this one has used leaves it.
@@ -241,7 +285,7 @@ impl Calling {
         ensures value { result.now ≡ self.now.store }
         ensures stands { (stop : Option Halt) × CallStandsAt self.now stop }
     {
-        &self.state
+        &self.kept.state
     }
 
     /// Ends the call where it stands: as spent, with the fuel that it has used. The instance is left as a call with just so much fuel leaves it,
@@ -249,20 +293,20 @@ impl Calling {
     pub fn end(self) -> (Resident, Ended)
         ensures { EndsCall self result.0 result.1 }
     {
-        let Calling {
-            linked,
-            state,
+        let Calling { kept } = self;
+        let mut kept = kept;
+        let Kept {
+            linked: _,
+            state: _,
             machine,
             place,
-        } = self;
-        let mut machine = machine;
-        let used = give_up(&mut machine, &place);
+        } = &mut *kept;
+        let used = give_up(machine, place);
         let ended = Ended {
             ending: Ending::Spent,
             used,
         };
-        let stack = machine.into_stack();
-        (Resident::of_parts(linked, state, stack), ended)
+        (Resident::of(kept), ended)
     }
 
     /// Asks the import of which it is.
@@ -271,17 +315,29 @@ impl Calling {
         requires function { self.function ≡ function }
         ensures { (units : ℕ) → CallGoesOn self units result }
     {
-        let Calling {
-            linked,
-            state,
-            machine,
-            place: _,
-        } = self;
-        let ended = returned(answer(linked.valid(), function));
-        let mut machine = machine;
-        machine.last = None;
-        let stack = machine.into_stack();
-        Going::Over(Resident::of_parts(linked, state, stack), ended)
+        let Calling { kept } = self;
+        let mut kept = kept;
+        let ended = returned(answer(kept.linked.valid(), function));
+        kept.machine.last = None;
+        Going::Over(Resident::of(kept), ended)
+    }
+
+    /// Asks it, and writes its answer to the first place.
+    fn ask_into(self, function: u32, results: &mut [Value]) -> BareGoing
+        requires place { self.place ≡ None }
+        requires function { self.function ≡ function }
+        requires room { result_count self.loaded.contents function ≤ length results.old }
+        ensures { (units : ℕ) → CallGoesOn self units (whole_going self.loaded.contents self.function result results.new) }
+    {
+        let Calling { kept } = self;
+        let mut kept = kept;
+        place_answer(answer(kept.linked.valid(), function), results);
+        kept.machine.last = None;
+        let ended = BareEnded {
+            ending: BareEnding::Return,
+            used: 0,
+        };
+        BareGoing::Over(Resident::of(kept), ended)
     }
 
     /// Goes on with a function of the module, from this place.
@@ -290,25 +346,47 @@ impl Calling {
         requires place { self.place ≡ Some paused }
         ensures { CallGoesOn self units result }
     {
-        let Calling {
+        let Calling { kept } = self;
+        let mut kept = kept;
+        let Kept {
             linked,
             state,
             machine,
-            place: _,
-        } = self;
-        let (mut state, mut machine) = (state, machine);
+            place,
+        } = &mut *kept;
         let mut slice = Slice { paused, units };
-        match go_on_call(&mut machine, linked.valid(), &mut state, &mut slice) {
-            Some(ended) => {
-                let stack = machine.into_stack();
-                Going::Over(Resident::of_parts(linked, state, stack), ended)
+        match go_on_call(machine, linked.valid(), state, &mut slice) {
+            Some(ended) => Going::Over(Resident::of(kept), ended),
+            None => {
+                *place = CallPlace::Inside(slice.paused);
+                Going::Paused(Calling { kept })
             }
-            None => Going::Paused(Calling {
-                linked,
-                state,
-                machine,
-                place: CallPlace::Inside(slice.paused),
-            }),
+        }
+    }
+
+    /// Goes on so, and writes its results to the first of the places that are lent.
+    #[inline(always)]
+    fn run_into(self, paused: Paused, units: u64, results: &mut [Value]) -> BareGoing
+        requires units { 1 ≤ units }
+        requires place { self.place ≡ Some paused }
+        requires room { result_count self.loaded.contents paused.function ≤ length results.old }
+        ensures { CallGoesOn self units (whole_going self.loaded.contents self.function result results.new) }
+    {
+        let Calling { kept } = self;
+        let mut kept = kept;
+        let Kept {
+            linked,
+            state,
+            machine,
+            place,
+        } = &mut *kept;
+        let mut slice = Slice { paused, units };
+        match go_on_call_into(machine, linked.valid(), state, &mut slice, results) {
+            Some(ended) => BareGoing::Over(Resident::of(kept), ended),
+            None => {
+                *place = CallPlace::Inside(slice.paused);
+                BareGoing::Paused(Calling { kept })
+            }
         }
     }
 }

@@ -12,10 +12,11 @@
 
 mod calling;
 mod exported;
+mod kept;
 mod no_host;
 mod resident;
 
-pub use calling::{Calling, Going};
+pub use calling::{BareGoing, Calling, Going};
 pub use exported::{export_number, exported_function, exported_global};
 pub use no_host::NoHost;
 pub use resident::Resident;

@@ -2,7 +2,7 @@
 
 ghost use Rattle.std.specs.Prelude.{◌≡◌, ◌≤◌, ◌↔◌, length, true, false, Some, None, IfOk, IfSome, IsTrue, MatchOption};
 ghost use Rattle.std.specs.Arc.{arc_value};
-ghost use Rattle.limits.specs.declared.TheConstants.{MAX_DEPTH};
+ghost use Rattle.limits.specs.declared.TheConstants.{MAX_DEPTH, MAX_RESULTS};
 ghost use Rattle.validate.specs.Typing.{HasFunctionType};
 ghost use Rattle.instance.specs.Store.{bytes_at, memory_of, with_memory_instance};
 ghost use Rattle.instance.specs.Reads.{WritesAt};
@@ -10,42 +10,39 @@ ghost use Rattle.instance.specs.Fresh.{IsFresh};
 ghost use Rattle.instance.specs.Storing.{IsStoreOf};
 ghost use Rattle.reduction.specs.Invoking.{TakesArguments};
 ghost use Rattle.interp.specs.Lent.{result_count, ended_in};
-ghost use Rattle.interp.specs.Machines.{MachineFits};
+ghost use Rattle.resident.specs.Inner.Going.{resting, IsResting};
 ghost use Rattle.resident.specs.Numbered.{HasNoType, ExportsAt, ExportsNoFunctionAt};
 ghost use Rattle.resident.specs.Calls.{CallsInstance, IsNew, StartsInstance, ExportsFirst, ExportsNoFunction, ExportsGlobal, ExportsNoGlobal};
 
 use crate::exported::{exported_function, exported_global, function_at, type_of};
+use crate::kept::{CallPlace, Kept};
 use crate::no_host::NoHost;
 use events::ended::{BareEnded, Ended, Ending};
 use events::values::Values;
 use imports::Linked;
 use instance::fault::InstFault;
-use instance::stack::{CallStack, Stop};
+use instance::stack::Stop;
 use instance::state::{Instance, State};
 use interp::call::FunctionCall;
 use interp::conditions::takes_arguments;
-use interp::invoke::{invoke_lent, invoke_on};
+use interp::invoke::ended_with;
 use interp::machine::Machine;
+use limits::MAX_RESULTS;
 use std::alloc::{AllocError, Global};
 use std::marker::Model;
 use std::sync::Arc;
 use syntax::contents::FuncType;
 use syntax::types::Value;
+use validate::{Valid, type_of_function};
 
 /// An instance of a module that is kept from call to call, with its module. Every import answers -1.
 pub struct Resident {
-    linked: Arc<Linked, Global>,
-    state: State,
-    stack: CallStack,
+    kept: Box<Kept, Global>,
 }
 
 impl Drop for Resident {
     fn drop(self) {
-        let Resident {
-            linked: _,
-            state: _,
-            stack: _,
-        } = self;
+        let Resident { kept: _ } = self;
     }
 }
 
@@ -53,16 +50,16 @@ impl Model for Resident {
     ghost use Rattle.std.specs.Coded.{codes};
     ghost use Rattle.std.specs.Arc.{arc_value};
     ghost use Rattle.syntax.specs.Loaded.{loaded_coded};
-    ghost use Rattle.instance.specs.Storing.{IsStoreOf};
     ghost use Rattle.resident.specs.Calls.{KeptInstance};
+    ghost use Rattle.resident.specs.Inner.Going.{resting, IsResting};
 
     ghost Value = { KeptInstance };
 
     ghost coded = { Prim.hlevel (codes, loaded_coded) };
 
-    ghost view = { λ r. record { loaded = arc_value r.linked; store = r.state; stop = r.stack } };
+    ghost view = { λ r. resting (arc_value r.kept.value.linked) r.kept.value.state r.kept.value.machine };
 
-    ghost invariant = { λ r. IsStoreOf (arc_value r.linked).contents r.state };
+    ghost invariant = { λ r. IsResting (arc_value r.kept.value.linked) r.kept.value.state r.kept.value.machine };
 }
 
 /// A new instance.
@@ -78,16 +75,32 @@ fn new_instance(alloc: Global, linked: &Linked) -> Result<Instance, AllocError>
     }
 }
 
+/// How many results a function has: no more than there may be.
+fn result_count(valid: &Valid, function: u32) -> usize
+    ensures count { result ≡ result_count valid.now.contents function }
+    ensures few { result ≤ MAX_RESULTS }
+{
+    match type_of_function(valid.contents(), function) {
+        Some(func_type) => func_type.results.len(),
+        None => 0,
+    }
+}
+
 impl Resident {
     /// A new instance of a module, before its start function. All memory that it ever takes is taken here.
     pub fn new(alloc: Global, linked: Arc<Linked, Global>) -> Result<Resident, AllocError>
         ensures { IfOk result (IsNew (arc_value linked)) }
     {
-        let (state, stack) = new_instance(alloc, &linked)?.into_parts();
-        Ok(Resident {
+        let machine = Machine::new(alloc, linked.valid())?;
+        let (state, _stack) = new_instance(alloc, &linked)?.into_parts();
+        let kept = Kept {
             linked,
             state,
-            stack,
+            machine,
+            place: CallPlace::Import(0, 0),
+        };
+        Ok(Resident {
+            kept: Box::new(alloc, kept)?,
         })
     }
 
@@ -96,7 +109,7 @@ impl Resident {
         ensures named { MatchOption result (ExportsNoFunction self.now.loaded.contents name.now) (λ found. ExportsFirst self.now.loaded.contents name.now found.0) }
         ensures typed { IfSome result (λ found. HasFunctionType self.now.loaded.contents found.0 found.1.now) }
     {
-        exported_function(self.linked.valid(), name)
+        exported_function(self.kept.linked.valid(), name)
     }
 
     /// The function that the export of this number is, with its type, where there is one.
@@ -104,54 +117,38 @@ impl Resident {
         ensures numbered { MatchOption result (ExportsNoFunctionAt self.now.loaded.contents number) (λ found. ExportsAt self.now.loaded.contents number found.0) }
         ensures typed { IfSome result (λ found. HasFunctionType self.now.loaded.contents found.0 found.1.now) }
     {
-        function_at(self.linked.valid(), number)
+        function_at(self.kept.linked.valid(), number)
     }
 
     /// The type of a function of its module, where there is one.
     pub fn type_of(&self, function: u32) -> Option<&FuncType>
         ensures { MatchOption result (HasNoType self.now.loaded.contents function) (λ found. HasFunctionType self.now.loaded.contents function found.now) }
     {
-        type_of(self.linked.valid(), function)
+        type_of(self.kept.linked.valid(), function)
     }
 
     /// Whether the module has this function, and it takes these arguments.
     pub fn takes(&self, function: u32, args: &[Value]) -> bool
         ensures { IsTrue result ↔ TakesArguments self.now.loaded.contents function args.now }
     {
-        takes_arguments(self.linked.valid(), function, args)
+        takes_arguments(self.kept.linked.valid(), function, args)
     }
 
-    /// A machine for a call in slices.
-    pub(crate) fn machine(&self, alloc: Global) -> Result<Machine, AllocError>
-        ensures { IfOk result (λ m. MachineFits self.now.loaded.contents m) }
+    /// An instance that is in no call.
+    pub(crate) fn of(kept: Box<Kept, Global>) -> Resident
+        requires { IsResting (arc_value kept.value.linked) kept.value.state kept.value.machine }
+        ensures { result ≡ resting (arc_value kept.value.linked) kept.value.state kept.value.machine }
     {
-        Machine::new(alloc, self.linked.valid())
+        Resident { kept }
     }
 
-    /// Its module, and its state.
-    pub(crate) fn into_parts(self) -> (Arc<Linked, Global>, State)
-        ensures linked { arc_value result.0 ≡ self.loaded }
-        ensures state { result.1 ≡ self.store }
-        ensures store { IsStoreOf self.loaded.contents self.store }
+    /// Its parts.
+    pub(crate) fn into_kept(self) -> Box<Kept, Global>
+        ensures same { self ≡ resting (arc_value result.value.linked) result.value.state result.value.machine }
+        ensures resting { IsResting (arc_value result.value.linked) result.value.state result.value.machine }
     {
-        let Resident {
-            linked,
-            state,
-            stack: _,
-        } = self;
-        (linked, state)
-    }
-
-    /// An instance of this state, and this stack.
-    pub(crate) fn of_parts(linked: Arc<Linked, Global>, state: State, stack: CallStack) -> Resident
-        requires { IsStoreOf (arc_value linked).contents state }
-        ensures { result ≡ record { loaded = arc_value linked; store = state; stop = stack } }
-    {
-        Resident {
-            linked,
-            state,
-            stack,
-        }
+        let Resident { kept } = self;
+        kept
     }
 
     /// Calls a function with these arguments and so much fuel, while at most so many calls stand open. However it ends, the instance
@@ -161,15 +158,10 @@ impl Resident {
         requires depth { (1 ≤ depth) × (depth ≤ MAX_DEPTH) }
         ensures { CallsInstance self.old depth fuel function args.now result self.new }
     {
-        let valid = self.linked.valid();
-        let mut host = NoHost::new(valid);
-        let call = FunctionCall {
-            function,
-            args,
-            fuel,
-            depth,
-        };
-        invoke_on(valid, &mut self.state, &mut self.stack, &mut host, &call)
+        let count = result_count(self.kept.linked.valid(), function);
+        let mut places = [Value::I32(0); MAX_RESULTS];
+        let ended = self.call_into(function, args, fuel, depth, &mut places);
+        ended_with(ended, &places[..count])
     }
 
     /// Does what `call` does, and writes the results to the first of the places that are lent, at least as many as the function has. So no
@@ -188,7 +180,13 @@ impl Resident {
         requires depth { (1 ≤ depth) × (depth ≤ MAX_DEPTH) }
         ensures { CallsInstance self.old depth fuel function args.now (ended_in self.old.loaded.contents function result results.new) self.new }
     {
-        let valid = self.linked.valid();
+        let Kept {
+            linked,
+            state,
+            machine,
+            place: _,
+        } = &mut *self.kept;
+        let valid = linked.valid();
         let mut host = NoHost::new(valid);
         let call = FunctionCall {
             function,
@@ -196,8 +194,7 @@ impl Resident {
             fuel,
             depth,
         };
-        let (state, stack) = (&mut self.state, &mut self.stack);
-        invoke_lent(valid, state, stack, &mut host, results, &call)
+        machine.call_lent(valid, state, &mut host, results, &call)
     }
 
     /// Runs the start function, where there is one.
@@ -205,7 +202,7 @@ impl Resident {
         requires { (1 ≤ depth) × (depth ≤ MAX_DEPTH) }
         ensures { StartsInstance self.old depth fuel result self.new }
     {
-        match self.linked.valid().contents().start {
+        match self.kept.linked.valid().contents().start {
             Some(function) => self.call(function, &[], fuel, depth),
             None => Ended {
                 ending: Ending::Return(Values::empty()),
@@ -218,35 +215,35 @@ impl Resident {
     pub fn global(&self, name: &[u8]) -> Option<Value>
         ensures { MatchOption result (ExportsNoGlobal self.now.loaded.contents name.now self.now.store.globals) (ExportsGlobal self.now.loaded.contents name.now self.now.store.globals) }
     {
-        exported_global(self.linked.valid(), &self.state, name)
+        exported_global(self.kept.linked.valid(), &self.kept.state, name)
     }
 
     /// Its module.
     pub fn linked(&self) -> &Linked
         ensures { result.now ≡ self.now.loaded }
     {
-        &self.linked
+        &self.kept.linked
     }
 
     /// Its instance as the last call left it, however that ended.
     pub fn store(&self) -> &State
         ensures { result.now ≡ self.now.store }
     {
-        &self.state
+        &self.kept.state
     }
 
     /// The bytes of its module.
     pub fn module_bytes(&self) -> &[u8]
         ensures { result.now ≡ self.now.loaded.bytes }
     {
-        self.linked.valid().module().bytes()
+        self.kept.linked.valid().module().bytes()
     }
 
     /// How many bytes the memory has.
     pub fn size(&self) -> usize
         ensures { result ≡ length self.now.store.memory }
     {
-        self.state.memory().len()
+        self.kept.state.memory().len()
     }
 
     /// Copies the bytes of the memory from an address on, as many as there is room for. False, and nothing is copied, where they are
@@ -256,7 +253,7 @@ impl Resident {
         ensures missing { result ≡ false → bytes_at at (length into.old) self.now.store.memory ≡ None }
         ensures same { result ≡ false → into.new ≡ into.old }
     {
-        self.state.memory().read_into(at, into)
+        self.kept.state.memory().read_into(at, into)
     }
 
     /// Writes bytes to the memory from an address on. False, and nothing is changed, where they don't all fit.
@@ -266,13 +263,13 @@ impl Resident {
         ensures module { self.new.loaded ≡ self.old.loaded }
         ensures stop { self.new.stop ≡ self.old.stop }
     {
-        self.state.memory_mut().write(at, bytes)
+        self.kept.state.memory_mut().write(at, bytes)
     }
 
     /// Where the last call stopped, unless it returned.
     pub fn last_stop(&self) -> Option<Stop<'_>>
         ensures { result ≡ self.now.stop }
     {
-        self.stack.last_stop()
+        self.kept.machine.last_stop()
     }
 }

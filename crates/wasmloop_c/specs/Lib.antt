@@ -6,6 +6,7 @@ pub mod Sites
 pub mod Values
 pub mod Inspecting
 pub mod Exports
+pub mod FirstSlices
 pub mod Instances
 pub mod Signatures
 pub mod Slices

@@ -9,7 +9,7 @@ use crate::checked::CheckedLimits;
 use crate::ended::CallEnded;
 use crate::handle::{Handle, on};
 use crate::instances::{CallLimits, named};
-use crate::status::{KIND, MEMORY, OK, RANGE};
+use crate::status::{KIND, OK, RANGE};
 use crate::thing::{InstanceStage, Thing};
 use resident::{Going, Resident};
 use std::alloc::Global;
@@ -28,16 +28,8 @@ fn begin_on(
         Ok(found) => found,
         Err(status) => return (InstanceStage::Resident(resident), status),
     };
-    match resident.begin(
-        alloc,
-        function,
-        args.as_slice(),
-        limits.fuel(),
-        limits.depth(),
-    ) {
-        Ok(call) => (InstanceStage::Calling(call), OK),
-        Err(same) => (InstanceStage::Resident(same), MEMORY),
-    }
+    let call = resident.begin(function, args.as_slice(), limits.fuel(), limits.depth());
+    (InstanceStage::Calling(call), OK)
 }
 
 fn begin_stage(
@@ -92,7 +84,7 @@ pub extern "C" fn wasmloop_rt_call_begin(
 }
 
 /// What a slice leaves of a call.
-fn left_by(going: Going, over: &mut u32, told: &mut CallEnded) -> InstanceStage
+pub fn left_by(going: Going, over: &mut u32, told: &mut CallEnded) -> InstanceStage
     ensures { LeftByCall going result over.new told.old told.new }
 {
     match going {

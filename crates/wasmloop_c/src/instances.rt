@@ -25,7 +25,7 @@ use std::sync::Arc;
 use syntax::types::{ValType, Value};
 
 /// How many arguments are few: those need no memory.
-const FEW: usize = 8;
+pub const FEW: usize = 8;
 
 /// What a call may use.
 #[repr(C)]
@@ -109,7 +109,7 @@ pub extern "C" fn wasmloop_rt_instance(
 }
 
 /// The values of these types that the numbers are, or the status that says why there are none.
-fn arguments(alloc: Global, types: &[ValType], numbers: &[u64]) -> Result<Vec<Value>, u32>
+pub fn arguments(alloc: Global, types: &[ValType], numbers: &[u64]) -> Result<Vec<Value>, u32>
     ensures given { IfOk result (λ args. values_of types.now numbers.now ≡ Some args.items) }
     ensures refused { IfErr result (λ status. (status ≡ MEMORY) ⊎ ((status ≡ ARGUMENTS) × (values_of types.now numbers.now ≡ None))) }
 {

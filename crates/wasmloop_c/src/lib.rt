@@ -16,6 +16,7 @@ mod did;
 mod ended;
 mod exports;
 mod fault;
+mod first_slice;
 mod handle;
 mod held;
 mod inspect;

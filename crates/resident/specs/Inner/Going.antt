@@ -11,8 +11,8 @@ use Rattle.interp.specs.declared.paused.Paused.{Paused}
 use Rattle.interp.specs.Machines.{MachineFits}
 use Rattle.resident.specs.Calls.{KeptInstance}
 use Rattle.resident.specs.Underway.{CallUnderway, IsSomeCall}
-use Rattle.resident.specs.declared.calling.CallPlace.{CallPlace}
-use Rattle.resident.specs.declared.calling.CallPlace.TheVariants.{Import, Inside}
+use Rattle.resident.specs.declared.kept.CallPlace.{CallPlace}
+use Rattle.resident.specs.declared.kept.CallPlace.TheVariants.{Import, Inside}
 
 -- of which function it is, with how many calls open at most, and where it goes on
 abbrev pub called_function : CallPlace → ℕ
@@ -54,11 +54,16 @@ abbrev pub inside_call : Loaded → Store → Machine → Paused → CallUnderwa
 inside_call loaded store machine paused = call_underway loaded store machine (Inside paused)
 
 -- and of the instance, where it is over
-abbrev pub kept : Loaded → Store → Machine → KeptInstance
-kept loaded store machine = record { loaded = loaded; store = store; stop = stop_of machine.last machine.frames.items }
+abbrev pub resting : Loaded → Store → Machine → KeptInstance
+resting loaded store machine = record { loaded = loaded; store = store; stop = stop_of machine.last machine.frames.items }
 
 -- The machine fits the module, the store is one of the module, and some call has come there.
 pub record CallIsGoing (loaded : Loaded) (store : Store) (machine : Machine) (place : CallPlace) : Type 0 where
   pub runs : MachineFits loaded.contents machine
   pub fit : IsStoreOf loaded.contents store
   pub some : IsSomeCall (call_underway loaded store machine place)
+
+-- The machine fits the module, and the store is one of the module.
+pub record IsResting (loaded : Loaded) (store : Store) (machine : Machine) : Type 0 where
+  pub runs : MachineFits loaded.contents machine
+  pub fit : IsStoreOf loaded.contents store

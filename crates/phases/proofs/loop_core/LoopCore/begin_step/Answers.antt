@@ -4,7 +4,7 @@ use Rattle.phases.proofs.loop_core.LoopCore.begin_step.Goals as goal
 pub call_back-requires-clause-runs : goal.call_back-requires-clause-runs
 call_back-requires-clause-runs g c =
     let same = c.valid.ensures.same ∙ c.deref.ensures ∙ c.self.invariant.same ∙ ap (λ (x : Setting). x.loaded) (ap (λ (x : Core _). x.setting) c.self.view_is ∙ sym c.prepare.ensures.setting) in
-    rw same at c.in-Ok.ensures
+    rw same at c.in-Ok.ensures.fits
 
 pub call_back-requires-clause-fits : goal.call_back-requires-clause-fits
 call_back-requires-clause-fits g c = rw c.prepare.ensures.setting c.in-Runs.ensures.fits

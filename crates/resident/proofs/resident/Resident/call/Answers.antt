@@ -1,11 +1,25 @@
-use Rattle.resident.proofs.Words.{arc_value, KeptInstance, refl}
-use Rattle.resident.proofs.Refused.{called}
+use Rattle.resident.proofs.Words.{ap, arc_value, arith, KeptInstance, ◌∙◌}
+use Rattle.std.proofs.Common.{length-take}
+use Rattle.syntax.specs.Loaded.{Loaded}
+use Rattle.interp.specs.Lent.{result_count}
+use Rattle.resident.specs.declared.kept.Kept.{Kept}
 use Rattle.resident.proofs.resident.Resident.call.Goals as goal
+
+pub call_into-ended-requires-clause-room : goal.call_into-ended-requires-clause-room
+call_into-ended-requires-clause-room c =
+    let loaded = c.valid.ensures.same ∙ c.deref-2.ensures ∙ ap (λ (k : Kept). arc_value k.linked) c.deref.ensures ∙ ap (λ (x : KeptInstance). x.loaded) c.self.view_is in
+    let count = c.result_count-count.ensures.count ∙ ap (λ (l : Loaded). result_count l.contents c.args.function) loaded in
+    omega (arith, count, c.result_count-count.ensures.few)
+
+pub slice_bounds-places-end : goal.slice_bounds-places-end
+slice_bounds-places-end c = omega (arith, c.result_count-count.ensures.few, c.call_into-ended.auto.results)
+
+pub slice_bounds-ended_with-end : goal.slice_bounds-ended_with-end
+slice_bounds-ended_with-end c =
+    omega (arith, c.result_count-count.ensures.few, c.call_into-ended.auto.results, length-take c.result_count-count.result c.call_into-ended.new.results)
 
 pub returns : goal.returns
 returns c =
-    let e = c.invoke_on.ensures in
-    let after : KeptInstance = record { loaded = arc_value c.self.inside.linked; store = c.invoke_on.new.state; stop = c.invoke_on.new.stack } in
-    called c.args.self.now c.args.depth c.args.fuel c.args.function c.args.args.now c.new-host.result c.invoke_on.new.host c.invoke_on.result after (rw (← c.self.view_is) refl)
-    (rw (← c.self.view_is, ← c.deref.ensures, ← c.valid-valid.ensures.same) e.runs) e.within
-    (rw (← c.self.view_is, ← c.deref.ensures, ← c.valid-valid.ensures.same) e.results)
+    let loaded = c.valid.ensures.same ∙ c.deref-2.ensures ∙ ap (λ (k : Kept). arc_value k.linked) c.deref.ensures ∙ ap (λ (x : KeptInstance). x.loaded) c.self.view_is in
+    let count = c.result_count-count.ensures.count ∙ ap (λ (l : Loaded). result_count l.contents c.args.function) loaded in
+    rw (c.ended_with.ensures, count) c.call_into-ended.ensures

@@ -138,7 +138,7 @@ pub fn kind(byte: u8, part: Option<Part>) -> Reason {
         Some(Part::Section(section)) => kind_in_section(section, byte),
         None => match extension::of_section(byte) {
             Some(extension) => newer(byte, extension),
-            None => Reason::byte(byte, "unknown section").with(PLAIN),
+            None => Reason::byte(byte, "unknown section"),
         },
     }
 }
@@ -195,11 +195,14 @@ fn in_function(bytes: &[u8], at: usize) -> Option<Reason> {
 
 /// Which limit is meant at a byte of this part.
 pub fn limit(bytes: &[u8], at: usize, part: Option<Part>) -> Option<Reason> {
-    match part {
-        None => Some(Reason::longer_than(MAX_MODULE_BYTES as u64).with(
+    // (the whole length is looked at before all else, whatever the byte behind the last one lies in)
+    if bytes.len() > MAX_MODULE_BYTES {
+        return Some(Reason::longer_than(MAX_MODULE_BYTES as u64).with(
             "strip it with wasm-ld --strip-all",
-        )),
-        Some(Part::Section(section)) => of_section(bytes, at, section),
-        Some(Part::Function(_)) => in_function(bytes, at),
+        ));
+    }
+    match part? {
+        Part::Section(section) => of_section(bytes, at, section),
+        Part::Function(_) => in_function(bytes, at),
     }
 }

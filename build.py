@@ -1,12 +1,14 @@
-"""Proves and builds a program of this repository, or a static library for C, and the libraries below it, several side by side, and
-says how far it is.
+"""Proves and builds programs of this repository, or a static library for C, and the libraries below them, several side by side, and
+says how far it is and how many minutes are left.
 
-usage: build.py PROGRAM [--over-gate]
+usage: build.py PROGRAM..
+       build.py PROGRAM --over-gate | --over FOLDER
 
 `rt ci` proves the library for C as any other, since a static library's check reads the code of all below it, which would cost each of its
 edits 25 seconds; here it is proved once more, as what it is, and compiled.
 
-With --over-gate the libraries are those that `rt ci` has just proved, in out/rlib, and the program alone is proved and built.
+With --over-gate the libraries are those that `rt ci` has just proved, in out/rlib, with --over those of FOLDER, NAME.rlib each, and the
+program alone is proved and built.
 
 `rt run` alone does the same, one library at a time: rt locks all libraries below the one that it works on. Here the locks
 are taken once for all, as `rt all` takes them, and two or more libraries are built at a time, each once those below it
@@ -15,6 +17,7 @@ in out/statements: the crates above it load them in a fraction of the time that 
 crate, and where one is not proved, what rattle said of it.
 """
 
+import argparse
 import copy
 import hashlib
 import importlib.machinery
@@ -31,8 +34,11 @@ from concurrent.futures import FIRST_COMPLETED, ThreadPoolExecutor, wait
 TOP = os.path.dirname(os.path.realpath(__file__))
 # Libraries that are built as static ones, for C; what tools/statement.py says of them is of this proof.
 FOR_C = ("wasmloop_c",)
-# What one job of a check takes at most, as measured, in bytes.
-JOB = 1_500_000_000
+# What a check takes of memory at most, as measured, in bytes: so much, so much more for each second of TAKES, and of that this part for each
+# job beside the first.
+CHECK, SECOND, BESIDE_ONE = 1_200_000_000, 8_000_000, 0.6
+# How exactly free memory is looked at, and the part of it that is used.
+STEP, USED = 250_000_000, 0.9
 # More jobs than these hardly shorten a check.
 MOST_JOBS = 4
 # With four jobs a check takes so many times the processors' time that it takes with one.
@@ -43,11 +49,11 @@ BESIDE, NEARLY = ["nice", "-n", "10"], 0.9
 QUIET = 30
 # What the crates take of a processor with one job, in seconds (`tools/gate.py`); another one is guessed to take as long as most.
 TAKES = {
-    "limits": 6, "tallies": 7, "slot": 13, "files": 16, "reduction": 24, "world_log": 26, "events": 27, "marks": 27, "desk": 28, "leb": 32,
-    "numeric": 34, "claims": 40, "handles": 55, "pool": 61, "imports": 72, "scripting": 73, "working": 74, "order": 85, "interp": 96,
-    "flaws": 100, "board": 102, "loader": 102, "syntax": 104, "instance": 104, "wasmloop": 105, "places": 112, "words": 132, "world": 140,
-    "script": 151, "wasmloop_c": 155, "decode": 209, "sentences": 229, "engine": 244, "commands": 247, "phases": 280, "validate": 314,
-    "serve": 331,
+    "limits": 6, "tallies": 7, "schedules": 10, "slot": 13, "files": 16, "reduction": 16, "desk": 19, "world_log": 21, "events": 22,
+    "marks": 27, "leb": 32, "embed": 32, "numeric": 34, "loader": 38, "claims": 40, "pool": 40, "working": 52, "handles": 55, "imports": 58,
+    "scripting": 59, "example_plugin": 63, "example_clock": 70, "places": 78, "world": 87, "resident": 89, "instance": 90,
+    "example_host": 93, "flaws": 98, "interp": 99, "board": 103, "syntax": 104, "wasmloop": 105, "order": 118, "script": 134, "words": 136,
+    "wasmloop_c": 155, "commands": 173, "decode": 202, "sentences": 208, "validate": 252, "engine": 257, "phases": 260, "serve": 282,
 }
 GUESSED = 100
 # How many seconds the pace that is seen needs before it counts as much as the one that was measured.
@@ -83,11 +89,19 @@ def kit():
     return made if all(hasattr(made, it) for it in wanted) and "--statements" in made.help_of("build") else None
 
 
-class Plan:
-    """The libraries below the program and, unless these are all, the program, what each is likely to take, and what has been done."""
+def lowest_first(programs, below_alone=False):
+    """Returns the libraries below the programs, each once and after those that it uses, and behind them, unless these are all, the programs."""
+    found = []
+    for program in programs:
+        found += [it for it in program.below() if it not in found]
+    return found if below_alone else [*found, *programs]
 
-    def __init__(self, program, at_once=1, jobs=1, below_alone=False):
-        self.crates = program.below() if below_alone else [*program.below(), program]
+
+class Plan:
+    """The libraries below the programs and, unless these are all, the programs, what each is likely to take, and what has been done."""
+
+    def __init__(self, programs, at_once=1, jobs=1, below_alone=False):
+        self.crates = lowest_first(programs, below_alone)
         self.at_once, self.jobs = at_once, jobs
         self.work = {it: TAKES.get(it.name, GUESSED) for it in self.crates}
         # what the longest chain of crates from each one up to the program takes (each crate stands behind those that it uses)
@@ -106,8 +120,28 @@ class Plan:
         at_one = min(work / 2, 10 + work / 20)
         return at_one + (work - at_one) * SHARED / self.jobs
 
-    def begins(self, crate):
-        self.running[crate] = time.monotonic()
+    def memory(self, crate, jobs):
+        return (CHECK + SECOND * self.work[crate]) * (1 + BESIDE_ONE * (jobs - 1))
+
+    def fitting(self, crate, jobs, room):
+        """Returns as many of the jobs as have so much memory."""
+        while jobs > 1 and self.memory(crate, jobs) > room:
+            jobs -= 1
+        return jobs
+
+    def next(self, waiting, room):
+        """Yields what can begin now within so much memory: a crate, its jobs, and whether the longest chain of crates stands on it."""
+        ready = [it for it in waiting if all(dep in self.done for dep in it.deps)]
+        free = self.at_once - len(self.running)
+        for crate in ready:
+            is_first = self.behind[crate] >= NEARLY * max(self.behind[it] for it in [*waiting, *self.running])
+            # (where little else can be done, the processors that are free are for this one)
+            jobs = self.jobs if is_first else min(self.jobs, max(1, free // len(ready)))
+            left = room - sum(self.memory(it, taken) for it, (_, taken) in self.running.items())
+            jobs = self.fitting(crate, jobs, left)
+            if len(self.running) < self.at_once and (not self.running or self.memory(crate, jobs) <= left):
+                self.running[crate] = time.monotonic(), jobs
+                yield crate, jobs, is_first
 
     def skips(self, crates):
         """What is there already says nothing of the pace."""
@@ -123,7 +157,7 @@ class Plan:
 
     def part_done(self, crate):
         """Returns a guess of how much of a crate is done: beside others it takes twice what it would take of one processor."""
-        began = self.running.get(crate)
+        began, _ = self.running.get(crate, (None, 0))
         return 0 if began is None else min(0.9, (time.monotonic() - began) / (2 * self.work[crate] + 10))
 
     def unpaced(self):
@@ -233,38 +267,33 @@ def report(plan, crate):
     say(f"[{len(plan.done)} of {len(plan.crates)}] {crate.name}: {found} functions proved; {clock(plan.elapsed())} so far{left}")
 
 
-def shares(rtlib):
-    """Returns how many crates are built at a time, and with how many jobs one that the longest chain stands on."""
+def shares():
+    """Returns how many crates are built at a time, and with how many jobs one that the longest chain stands on, where memory allows."""
     processors = len(os.sched_getaffinity(0))
-    jobs = min(MOST_JOBS, processors)
-    at_once = processors
-    while jobs > 1 and not rtlib.fits(JOB * (jobs + at_once - 1)):
-        jobs -= 1
-    while at_once > 1 and not rtlib.fits(JOB * at_once):
-        at_once -= 1
-    return at_once, jobs
+    return processors, min(MOST_JOBS, processors)
+
+
+def free_memory(rtlib):
+    """Returns how much memory the checks may take, in bytes."""
+    steps = 1
+    while rtlib.fits(STEP * (steps + 1)):
+        steps += 1
+    return USED * STEP * steps
 
 
 def build_all(rtlib, plan):
     """Builds the crates that aren't built, each once those below it are, and those first that the longest chain stands on."""
-    at_once, jobs = shares(rtlib)
+    room = free_memory(rtlib)
     plan.skips([it for it in plan.crates if is_built(rtlib, it)])
     waiting = sorted((it for it in plan.crates if it not in plan.done), key=lambda it: -plan.behind[it])
     if waiting:
         say(f"proving and building {len(waiting)} crates: {minutes(plan.left())} on {len(os.sched_getaffinity(0))} processors")
     running = {}
-    with ThreadPoolExecutor(at_once) as pool:
+    with ThreadPoolExecutor(plan.at_once) as pool:
         while waiting or running:
-            ready = [it for it in waiting if all(dep in plan.done for dep in it.deps)]
-            free = at_once - len(running)
-            for crate in ready[:free]:
+            for crate, jobs, is_first in plan.next([*waiting], room):
                 waiting.remove(crate)
-                longest = max(plan.behind[it] for it in [*waiting, *running.values(), crate])
-                is_first = plan.behind[crate] >= NEARLY * longest
-                # (where little else can be done, the processors that are free are for this one)
-                shared = jobs if is_first else min(jobs, max(1, free // len(ready)))
-                plan.begins(crate)
-                running[pool.submit(build, rtlib, crate, shared, is_first)] = crate
+                running[pool.submit(build, rtlib, crate, jobs, is_first)] = crate
             ended = wait(running, timeout=QUIET, return_when=FIRST_COMPLETED).done
             for it in ended:
                 crate = running.pop(it)
@@ -284,45 +313,84 @@ def has_rt():
     return found
 
 
-def crate_of(rtlib, name):
-    """Returns the crate of this name, and readies this process for rattle's runs."""
+def crates_of(rtlib, names):
+    """Returns the crates of these names, which share the libraries below them, and readies this process for rattle's runs."""
     os.chdir(TOP)
     # (its first call sets a signal's handler, which only the main thread may)
     rtlib.guarded()
     # with its own handler, Python would wait at Ctrl-C for the libraries that are being built
     if signal.getsignal(signal.SIGINT) is signal.default_int_handler:
         signal.signal(signal.SIGINT, signal.SIG_DFL)
-    return rtlib.Crate(f"{TOP}/crates/{name}", TOP, {})
+    known = {}
+    for name in names:
+        folder = f"{TOP}/crates/{name}"
+        if folder not in known:
+            known[folder] = rtlib.Crate(folder, TOP, known)
+    return [known[f"{TOP}/crates/{it}"] for it in names]
 
 
-def main(name, over_gate=False):
+def without_rt(names):
+    """Proves and builds the programs as this kit's rt does, one crate at a time."""
+    say(f"proving and building {' and '.join(names)}, which the first time takes more than an hour")
+    for name in names:
+        words, folder = ["rt", "run", "--", "--version"], f"{TOP}/crates/{name}"
+        status = subprocess.run(words, cwd=folder, stdin=subprocess.DEVNULL, stdout=sys.stderr).returncode
+        if status:
+            return status
+    return 0
+
+
+def over_those_there(rtlib, programs, folder):
+    """Proves and builds the programs over libraries that are there, in a folder or where `rt ci` leaves them."""
+    plan = Plan(programs, *shares())
+    for program in programs:
+        for it in program.below() if folder else []:
+            it.rlib = f"{folder}/{it.name}.rlib"
+        with open(log_of(program), "w", encoding="utf-8") as program.out:
+            status = link(rtlib, program, plan.fitting(program, plan.jobs, free_memory(rtlib)))
+        say(text_of(log_of(program)))
+        if status:
+            return status
+    return 0
+
+
+def arguments():
+    parser = argparse.ArgumentParser(prog="build.py", description=__doc__.partition("\n\n")[0])
+    parser.add_argument("programs", nargs="+", metavar="PROGRAM")
+    over = parser.add_mutually_exclusive_group()
+    over.add_argument("--over-gate", action="store_true", help="over the libraries that `rt ci` has just proved, in out/rlib")
+    over.add_argument("--over", metavar="FOLDER", type=os.path.abspath, help="over those of this folder, NAME.rlib each")
+    given = parser.parse_args()
+    for it in given.programs:
+        if not os.path.isdir(f"{TOP}/crates/{it}/src"):
+            parser.error(f"there is no crate {it}")
+    return given
+
+
+def main(given):
     global program_name
-    program_name = name
+    program_name = given.programs[0]
     if not has_rt():
         return 1
     rtlib = kit()
     if not rtlib:
-        say("proving and building the program, which the first time takes half an hour")
-        words, folder = ["rt", "run", "--", "--version"], f"{TOP}/crates/{name}"
-        return subprocess.run(words, cwd=folder, stdin=subprocess.DEVNULL, stdout=sys.stderr).returncode
-    program = crate_of(rtlib, name)
-    program.is_static = program.is_static or name in FOR_C
-    at_once, jobs = shares(rtlib)
-    if over_gate:
-        with open(log_of(program), "w", encoding="utf-8") as program.out:
-            status = link(rtlib, program, jobs)
-        say(text_of(log_of(program)))
-        return status
-    plan = Plan(program, at_once, jobs)
+        return without_rt(given.programs)
+    programs = crates_of(rtlib, given.programs)
+    for it in programs:
+        it.is_static = it.is_static or it.name in FOR_C
+    if given.over_gate or given.over:
+        return over_those_there(rtlib, programs, given.over)
+    plan = Plan(programs, *shares())
     held = rtlib.lock(plan.crates)
     over_statements(plan.crates)
     build_all(rtlib, plan)
     for it in held:
         os.close(it)
-    os.utime(f"{program.folder}/{made_of(program)}")
-    say(f"{name} is proved and built; it took {clock(plan.elapsed())}, and later calls start at once")
+    for it in programs:
+        os.utime(f"{it.folder}/{made_of(it)}")
+    say(f"proved and built in {clock(plan.elapsed())}; later calls start at once")
     return 0
 
 
 if __name__ == "__main__":
-    sys.exit(main(sys.argv[1], "--over-gate" in sys.argv[2:]))
+    sys.exit(main(arguments()))

@@ -29,13 +29,17 @@ It also compares what is reached with where it stands: what these calls reach of
 of specs/ outside Inner is reached by one of them. And each public call that no clause says what it promises is one that the page
 lists, with its reason: by its name, as `crate::Type::{one, other}`, or with all of its crate or type.
 """
+from __future__ import annotations
+
+import argparse
 import re
 import sys
 from pathlib import Path
+from typing import Iterable, Iterator, Optional, Sequence
 
 import sums
+from sources import TOP, first
 
-TOP = Path(__file__).resolve().parent.parent
 CRATES, PAGE, PROOFS = TOP / 'crates', TOP / 'docs' / 'AUDIT.md', TOP / 'docs' / 'PROOFS.md'
 WORD = r"[A-Za-z_][\w'-]*"
 NAMES = re.compile(rf"{WORD}(?:\.{WORD})*|[^\w\s]")
@@ -50,59 +54,61 @@ STANDING = {'view', 'invariant', 'Value'}  # of an `impl Model`
 FN = re.compile(rf"^(\s*)(pub )?(?:const )?(?:extern .C. )?fn ({WORD})")
 
 
-def read(file):
+def read(file: Path) -> str:
     """The text of a file, in which a name that is a word of the language stands plain, and not as «name»."""
     return file.read_text().replace('«', '').replace('»', '')
 
 
-def above(lines, at, comment):
+def above(lines: list[str], at: int, comment: str) -> int:
     """Where the comment above a line begins."""
     while at and re.match(comment, lines[at - 1]):
         at -= 1
     return at
 
 
-def plain(text, comment):
+def plain(text: str, comment: str) -> str:
     return re.sub(rf'{comment}[^\n]*|"[^"\n]*"', ' ', text)
 
 
 class Node:
     """A definition: the lines that it stands in, its text, and what the words of that stand for. A call is of a type, or of ''."""
 
-    def __init__(self, file, name, lines, written, scope, of=None):
+    def __init__(self, file: Path, name: str, lines: Sequence[int], written: str, scope: Scope, of: Optional[str] = None) -> None:
         self.file, self.name, self.lines, self.written, self.scope, self.of = file, name, lines, written, scope, of
         self.place, self.suffix = str(file.relative_to(CRATES).with_suffix('')), file.suffix
-        self.text, self.names = plain(written, '--' if self.suffix == '.antt' else '//'), None
+        self.text = plain(written, '--' if self.suffix == '.antt' else '//')
+        self.names: Optional[list[Node]] = None
 
     @property
-    def words(self):
+    def words(self) -> set[str]:
         return set(NAMES.findall(self.text))
 
     @property
-    def is_call(self):
+    def is_call(self) -> bool:
         return self.of is not None and not self.name.startswith('impl ')
 
 
 class Scope:
     """What the words of a file, or of a part of it, stand for: a name at a path, or a path."""
 
-    def __init__(self, file, outer=None):
+    def __init__(self, file: Path, outer: Optional[Scope] = None) -> None:
         self.file, self.crate = file, file.relative_to(CRATES).parts[0]
-        self.names, self.aliases = (dict(outer.names), dict(outer.aliases)) if outer else ({}, {})
+        self.names: dict[str, tuple[str, str]] = dict(outer.names) if outer else {}
+        self.aliases: dict[str, str] = dict(outer.aliases) if outer else {}
 
-    def specs(self, line):
+    def specs(self, line: str) -> None:
         """`use Rattle.CRATE.specs.PATH.{NAME, NAME as NAME}` or `use Rattle.CRATE.specs.PATH as NAME`"""
-        path, listed, alias = re.match(rf"(?:ghost )?use ([\w.]+?)(?:\.\{{(.*)\}}| as ({WORD}))?;?$", line.strip()).groups()
+        path, listed, alias = first(rf"^(?:ghost )?use ([\w.]+?)(?:\.\{{(.*)\}}| as ({WORD}))?;?$", line.strip()).groups()
         if alias:
             self.aliases[alias] = path
         self.add(path, listed or '')
 
-    def code(self, text):
+    def code(self, text: str) -> None:
         """`use a::b::{C, D as E};` or `use a::b::C;`"""
         for path, listed, single in re.findall(r"^use ([\w:]+?)::(?:\{([^}]*)\}|(\w+(?: as \w+)?));", text, re.M):
             self.add('rust ' + path.replace('crate', self.crate), listed or single)
 
-    def add(self, path, listed):
+    def add(self, path: str, listed: str) -> None:
         for item in filter(None, map(str.strip, listed.split(','))):
             name, _, new = item.partition(' as ')
             self.names[(new or name).strip('◌')] = path, name.strip('◌')
@@ -111,8 +117,14 @@ class Scope:
 class Tree:
     """All definitions of the repository by file and name, and the public calls of each type."""
 
-    def __init__(self):
-        self.nodes, self.calls, self.kit, self.impls, self.types, self.kept, self.models = {}, {}, set(), [], {}, {}, {}
+    def __init__(self) -> None:
+        self.nodes: dict[tuple[Path, str], Node] = {}
+        self.calls: dict[tuple[Path, str], list[Node]] = {}
+        self.kit: set[str] = set()
+        self.impls: list[tuple[str, Node]] = []
+        self.types: dict[tuple[str, str], list[Path]] = {}
+        self.kept: dict[int, Node] = {}
+        self.models: dict[tuple[Path, str], Node] = {}
         for file in sorted(CRATES.glob('*/specs/**/*.antt')):
             self.read_specs(file)
         for file in sorted(CRATES.glob('*/src/**/*.rt')):
@@ -120,24 +132,25 @@ class Tree:
         for file, name in self.nodes:
             if file.suffix == '.rt':
                 self.types.setdefault((file.relative_to(CRATES).parts[0], name), []).append(file)
-        self.impls_of = {}
+        self.impls_of: dict[int, list[tuple[Optional[Node], Node]]] = {}
         for trait, node in self.impls:
-            of = self.resolve(node, node.of)
+            of = self.resolve(node, node.of or '')
             self.impls_of.setdefault(id(of), []).append((self.resolve(node, trait), node))
 
-    def read_specs(self, file):
-        lines, scope, around, starts = read(file).split('\n'), Scope(file), '', []
+    def read_specs(self, file: Path) -> None:
+        lines, scope, around = read(file).split('\n'), Scope(file), ''
+        starts: list[tuple[int, str, str]] = []
         for at, line in enumerate(lines):
             found = ANTT.match(line)
             if line.startswith('use '):
                 scope.specs(line)
             elif line.startswith('module '):
                 around = line  # what the definitions below it, indented, are given
-                starts.append((at, None, ''))
+                starts.append((at, '', ''))
             elif found:
                 name = (found.group(2) or found.group(4)).strip('◌')
                 starts.append((above(lines, at, r" *--|infix"), name, around if found.group(1) else ''))
-        for (begin, name, outer), (end, _, _) in zip(starts, starts[1:] + [(len(lines), None, '')]):
+        for (begin, name, outer), (end, _, _) in zip(starts, starts[1:] + [(len(lines), '', '')]):
             if name:
                 kept = [at for at in range(begin, end) if lines[at].strip() and not RULE.match(lines[at])]
                 node = Node(file, name, kept, '\n'.join([outer] + [lines[at] for at in kept]), scope)
@@ -146,15 +159,16 @@ class Tree:
                     for word in ' '.join(re.findall(rf"^\s+({WORD}(?: {WORD})*) :", node.text, re.M)).split():
                         self.nodes.setdefault((file, word), node)
 
-    def read_code(self, file):
+    def read_code(self, file: Path) -> None:
         text = read(file)
         lines, scope, header, kind, of = text.split('\n'), Scope(file), '', '', ''
         scope.code(text)
         inside = scope
         for at, line in enumerate(lines):
-            if BLOCK.match(line):
-                first, model, of = BLOCK.match(line).groups()
-                inside, header, kind, begin = Scope(file, scope), line, model or first, at
+            block = BLOCK.match(line)
+            if block:
+                item, model, of = block.groups()
+                inside, header, kind, begin = Scope(file, scope), line, model or item, at
             elif line == '}':
                 if header and kind not in ('impl', 'trait', 'Model', 'From'):
                     self.add_impl(file, lines, begin, at, kind, of, inside)
@@ -179,14 +193,14 @@ class Tree:
                 self.add_item(file, lines, at, end, inside)
 
     @staticmethod
-    def end_of_contract(lines, at, indent):
+    def end_of_contract(lines: list[str], at: int, indent: str) -> int:
         while not re.match(rf"{indent}\{{|.*(\{{|\{{\}}|;)$", lines[at]):
             at += 1
         return at
 
-    def add_impl(self, file, lines, begin, end, trait, of, scope):
+    def add_impl(self, file: Path, lines: list[str], begin: int, end: int, trait: str, of: str, scope: Scope) -> None:
         """The clauses and the ghost items of an `impl Trait for Type`."""
-        kept = []
+        kept: list[int] = []
         for at in range(begin + 1, end):
             function, item = FN.match(lines[at]), GHOST.match(lines[at])
             if function:
@@ -202,8 +216,8 @@ class Tree:
             told = '\n'.join([lines[begin]] + [lines[at] for at in kept])
             self.impls.append((trait, Node(file, f"impl {trait} for {of}", [begin] + kept, told, scope, of)))
 
-    def add_item(self, file, lines, at, end, scope):
-        kind, name = ITEM.match(lines[at]).groups()
+    def add_item(self, file: Path, lines: list[str], at: int, end: int, scope: Scope) -> None:
+        kind, name = first(ITEM.pattern, lines[at]).groups()
         for line in lines[at:end + 1]:
             if line.strip().startswith('ghost use '):
                 scope.specs(line)
@@ -211,30 +225,31 @@ class Tree:
         told = '\n'.join(line for line in lines[at:end + 1] if not re.match(private, line))
         self.nodes[file, name] = Node(file, name, range(above(lines, at, DOC), end + 1), told, scope)
 
-    def rust_type(self, crate, module, name):
+    def rust_type(self, crate: str, module: str, name: str) -> Optional[Node]:
         """A Rust type of a crate: the module's that is named, or else the first of this name."""
         found = self.types.get((crate, name), [])
         for file in [file for file in found if file.stem == module] + found:
             return self.nodes.get((file, name + ' Value')) or self.nodes[file, name]
+        return None
 
-    def resolve(self, node, word):
+    def resolve(self, node: Node, word: str) -> Optional[Node]:
         """The definition that a word of a definition stands for, if it is one of this repository."""
-        first, _, rest = word.partition('.')
-        if first in node.scope.aliases:
-            return self.at_path(node.scope.aliases[first], rest.split('.')[0])
-        if first in node.scope.names:
-            return self.at_path(*node.scope.names[first])
+        head, _, rest = word.partition('.')
+        if head in node.scope.aliases:
+            return self.at_path(node.scope.aliases[head], rest.split('.')[0])
+        if head in node.scope.names:
+            return self.at_path(*node.scope.names[head])
         if node.suffix == '.rt':
-            return self.rust_type(node.scope.crate, node.file.stem, first)
-        return self.nodes.get((node.file, first))
+            return self.rust_type(node.scope.crate, node.file.stem, head)
+        return self.nodes.get((node.file, head))
 
-    def named_by(self, node):
+    def named_by(self, node: Node) -> list[Node]:
         """The definitions that its words stand for."""
         if node.names is None:
             node.names = list(filter(None, [self.resolve(node, word) for word in node.words]))
         return node.names
 
-    def at_path(self, path, name):
+    def at_path(self, path: str, name: str) -> Optional[Node]:
         if path.startswith('rust '):
             parts = path[5:].split('::')
             return self.rust_type(parts[0], parts[-1], name)
@@ -247,11 +262,12 @@ class Tree:
             return self.rust_type(parts[1], *[part for part in parts if part != 'TheVariants'][-2:])
         elif parts[3] != 'contracts':  # that is how a value is coded, which no clause speaks of
             return self.nodes.get((CRATES.joinpath(parts[1], 'specs', *parts[3:]).with_suffix('.antt'), name))
+        return None
 
-    def of_trait(self, impl, trait):
+    def of_trait(self, impl: Node, trait: Optional[Node]) -> Node:
         """An impl with its clauses, and of its ghost items those that a clause of the trait names; the others are proofs."""
-        def is_named(item):
-            word = GHOST.match(item).group(1)
+        def is_named(item: str) -> bool:
+            word = first(GHOST.pattern, item)[1]
             return len(re.findall(rf"\b{word}\b", trait.text)) > 1 if trait else True
         items = re.findall(r"^ +ghost .*?\};$", impl.written, re.M | re.S)
         unnamed = [item for item in items if not is_named(item)]
@@ -263,7 +279,7 @@ class Tree:
         lines = [impl.lines[at] for at, line in enumerate(impl.written.split('\n')) if line in told]
         return self.kept.setdefault(id(impl), Node(impl.file, impl.name, lines, told, impl.scope, impl.of))
 
-    def roots(self, call):
+    def roots(self, call: str) -> list[Node]:
         """`crate::function`, `crate::module::function`, `crate::Type` (all its public calls), `crate::module::Type` (those in that module),
         `crate::Type::function`, or a crate with all calls that it exports to C"""
         crate, *path = call.split('::')
@@ -273,7 +289,7 @@ class Tree:
         item = self.rust_type(crate, '', path[-1]) if path else None
         return found + ([item] if item else []) or sys.exit(f"audit: there is no public call {call}")
 
-    def public_calls(self):
+    def public_calls(self) -> Iterator[Node]:
         """The public functions of public modules, and those that a crate's root hands on."""
         for (file, of), nodes in self.calls.items():
             root = CRATES / file.relative_to(CRATES).parts[0] / 'src' / 'lib.rt'
@@ -282,40 +298,49 @@ class Tree:
             known = file == root or re.search(rf"^pub mod {file.stem};", text, re.M)
             yield from (node for node in nodes if known or 'extern' in node.text or re.search(rf"\b{of or node.name}\b", handed))
 
-    def models_of(self, nodes):
+    def models_of(self, nodes: list[Node]) -> list[Node]:
         """What contracts see of the types among these, with their invariants."""
         reached = {(node.file, node.name) for node in nodes}
         return [node for key, node in self.models.items() if key in reached]
 
-    def reach(self, calls):
+    def reach(self, calls: list[str]) -> list[Node]:
         """The definitions that are reached from these calls."""
         return self.reach_from([node for call in calls for node in self.roots(call)])
 
-    def reach_from(self, nodes):
-        reached, waiting, held = {}, list(nodes), []
+    def reach_from(self, nodes: Iterable[Node]) -> list[Node]:
+        """The same from these definitions."""
+        reached: dict[int, Node] = {}
+        waiting, held = list(nodes), list[tuple[Optional[Node], Node]]()
         while waiting:
             node = waiting.pop()
-            if node and id(node) not in reached:
+            if id(node) not in reached:
                 reached[id(node)] = node
                 waiting += self.named_by(node)
                 held += self.impls_of.get(id(node), [])
             if not waiting:  # the impls of the types that are reached, of the kit's traits and of those that are reached
                 waiting = [self.of_trait(impl, trait) for trait, impl in held if not trait or id(trait) in reached]
                 held = [(trait, impl) for trait, impl in held if trait and id(trait) not in reached]
-        return reached.values()
+        return list(reached.values())
 
 
-def named_in(page):
+def as_line(text: str) -> str:
+    """A row of docs/PROOFS.md, whose calls are links, as the line that it would be in a list; other lines as they are."""
+    row = re.fullmatch(r"(\[?`.*?) \| (.*)", text)
+    return "- " + re.sub(r"\[(`[^`]+`)\]\([^)]*\)", r"\1", row[1]) + ": " + row[2] if row else text
+
+
+def named_in(page: str) -> list[tuple[str, str]]:
     """The calls that a page names."""
+    page = '\n'.join(map(as_line, page.split('\n')))
     return sorted(set(re.findall(r"`([a-z_]+::[\w:]+)`|^- `(\w+)`:", page, re.M)) - {('crate::call', '')})
 
 
-def listed(page):
+def listed(page: str) -> list[str]:
     """The calls of the headline, which the page numbers."""
     return re.findall(r"`([a-z_]+::[\w:]+)`", '\n'.join(re.findall(r"^\d+\. .*", page, re.M)))
 
 
-def calls_of(tree, headline):
+def calls_of(tree: Tree, headline: list[str]) -> list[Node]:
     """The calls of the headline, those that PROOFS names, and all other public ones."""
     exporting = {node.scope.crate for nodes in tree.calls.values() for node in nodes if 'extern' in node.text}
     named = {call or crate for call, crate in named_in(read(PROOFS)) if call or crate in exporting}
@@ -323,9 +348,9 @@ def calls_of(tree, headline):
     return list({id(node): node for node in found if not node.scope.crate.startswith('test_')}.values())
 
 
-def inner_reached(tree, calls):
+def inner_reached(tree: Tree, calls: list[Node]) -> dict[str, tuple[set[str], set[str]]]:
     """What of specs/Inner these calls reach: for each file the definitions, and the calls."""
-    found = {}
+    found: dict[str, tuple[set[str], set[str]]] = {}
     for call in calls:
         for node in tree.reach_from([call]):
             if '/Inner' in node.place:
@@ -335,14 +360,14 @@ def inner_reached(tree, calls):
     return found
 
 
-def inner_lines(tree, calls):
+def inner_lines(tree: Tree, calls: list[Node]) -> Iterator[str]:
     """The lines of the page that say so."""
     for place, (names, by) in sorted(inner_reached(tree, calls).items()):
-        names, first, more = ' '.join(sorted(names)), sorted(by)[0], len(by) - 1
-        yield f"- {place}: {names}; by `{first}`{f' and {more} more' if more else ''}"
+        more = len(by) - 1
+        yield f"- {place}: {' '.join(sorted(names))}; by `{min(by)}`{f' and {more} more' if more else ''}"
 
 
-def misplaced(tree, page, reached, calls):
+def misplaced(tree: Tree, page: str, reached: Iterable[str], calls: list[Node]) -> Iterator[str]:
     """What stands in specs/Inner and is reached, if the page doesn't say so; and what stands outside and is not."""
     told, found = set(re.findall(r"^- \w+/specs/Inner.*", page, re.M)), set(inner_lines(tree, calls))
     yield from (f"docs/AUDIT.md: it doesn't say: {line}" for line in sorted(found - told))
@@ -353,14 +378,14 @@ def misplaced(tree, page, reached, calls):
             yield f"{name}: no public clause reaches it, and it stands outside Inner"
 
 
-def bare(tree):
+def bare(tree: Tree) -> Iterator[str]:
     """The public calls of libraries without a clause of what they promise."""
     for call in tree.public_calls():
         if not call.scope.crate.startswith(('test_', 'example_')) and not re.search(r"^\s+ensures\b", call.written, re.M):
-            yield '::'.join(filter(None, [call.scope.crate, call.of, call.name]))
+            yield '::'.join(filter(None, [call.scope.crate, call.of or '', call.name]))
 
 
-def excused(page):
+def excused(page: str) -> Iterator[str]:
     """The calls that the page's list of such calls names, or the types and crates."""
     lines = page.partition('## Public calls without a clause\n')[2].partition('\n## ')[0]
     heads = ' '.join(re.split(r"\.\s", item)[0] for item in lines.split('\n- ')[1:])
@@ -368,7 +393,7 @@ def excused(page):
         yield from (f"{head}::{name}" for name in re.findall(r"\w+", names)) if names else [head]
 
 
-def unexcused(tree, page):
+def unexcused(tree: Tree, page: str) -> Iterator[str]:
     """Which of them the page doesn't list, and which it lists that are none."""
     found, told = set(bare(tree)), set(excused(page))
     covered = {call: [name for name in told if f"{call}::".startswith(f"{name}::")] for call in found}
@@ -380,18 +405,18 @@ KINDS = 'definition', 'clause'
 ROW = re.compile(r"^\| ([a-z_]+/(?:specs|src)(?:/\w+)*: [^|]*) \| (\d+) \|", re.M)
 
 
-def files_of(cell):
+def files_of(cell: str) -> Iterator[str]:
     """The files that the first cell of a row names."""
     for folder, names in re.findall(r"([a-z_]+(?:/\w+)+): ([\w ]+)", cell):
         for name in names.split():
             yield f"{folder}/{name}.{'antt' if '/specs' in folder else 'rt'}"
 
 
-def lines_of(cell, counts):
+def lines_of(cell: str, counts: dict[str, tuple[int, int]]) -> str:
     return str(sum(counts.get(file, (0, 0))[0] for file in files_of(cell)))
 
 
-def compare(page, counts):
+def compare(page: str, counts: dict[str, tuple[int, int]]) -> Iterator[str]:
     """What the page's table says that is not so in the tree."""
     missing = set(counts)
     for cell, told in ROW.findall(page):
@@ -406,7 +431,7 @@ def compare(page, counts):
     yield from (f"it doesn't say: {total}" for total in totals(counts) if total not in page)
 
 
-def renew(page, counts):
+def renew(page: str, counts: dict[str, tuple[int, int]]) -> str:
     """The page with the numbers of the tree."""
     page = ROW.sub(lambda row: f"| {row.group(1)} | {lines_of(row.group(1), counts)} |", page)
     for total in totals(counts):
@@ -414,44 +439,57 @@ def renew(page, counts):
     return page
 
 
-def totals(counts):
+def totals(counts: dict[str, tuple[int, int]]) -> Iterator[str]:
     for suffix, what in (('.antt', 'definitions'), ('.rt', 'Rust')):
         some = [count for file, count in counts.items() if file.endswith(suffix)]
         yield f"{sum(n for n, _ in some)} lines of {what} in {len(some)} files"
 
 
-def main():
-    if '--mutate' in sys.argv:
+def words() -> argparse.ArgumentParser:
+    """The command line, whose help is the first comment."""
+    found = argparse.ArgumentParser(description=__doc__, formatter_class=argparse.RawDescriptionHelpFormatter)
+    for flag in 'renew', 'files', 'names', 'rest', 'inner', 'bare', 'kit':
+        found.add_argument(f"--{flag}", action='store_true', help=argparse.SUPPRESS)
+    found.add_argument('--mutate', type=int, metavar='N', help=argparse.SUPPRESS)
+    found.add_argument('--seed', type=int, default=1, metavar='S', help=argparse.SUPPRESS)
+    found.add_argument('--from', dest='calls', nargs='+', metavar='CALL', help=argparse.SUPPRESS)
+    return found
+
+
+def main() -> None:
+    given = words().parse_args()
+    if given.mutate:
         import mutate
-        return mutate.main(sys.argv)
-    options, tree, page = sys.argv[1:], Tree(), read(PAGE) if PAGE.is_file() else ''
+        return mutate.main(given.mutate, given.seed)
+    tree, page = Tree(), read(PAGE) if PAGE.is_file() else ''
     headline = listed(page)
-    by_file, counts = {}, {}
-    for node in tree.reach(options[options.index('--from') + 1:] if '--from' in options else headline):
+    by_file: dict[Path, list[Node]] = {}
+    counts: dict[str, tuple[int, int]] = {}
+    for node in tree.reach(given.calls or headline):
         by_file.setdefault(node.file, []).append(node)
     for file, nodes in sorted(by_file.items()):
         name = str(file.relative_to(CRATES))
         counts[name] = len({at for node in nodes for at in node.lines}), read(file).count('\n')
-        if '--files' in options:
+        if given.files:
             print(f"{name}: {counts[name][0]} of {counts[name][1]}")
-        if '--names' in options:
+        if given.names:
             for node in sorted(nodes, key=lambda node: node.lines[0]):
                 print(f"{name}:{node.lines[0] + 1}-{node.lines[-1] + 1} {node.name}")
     rest = {str(file.relative_to(CRATES)) for file, _ in tree.nodes if file.suffix == '.antt'} - counts.keys()
-    for option, names in (('--rest', rest), ('--kit', tree.kit)):
-        if option in options:
+    for is_asked, names in ((given.rest, rest), (given.kit, tree.kit)):
+        if is_asked:
             print('\n'.join(sorted(names)))
     print('\n'.join(totals(counts)))
-    if '--from' in options:
+    if given.calls:
         return
     calls = calls_of(tree, headline)
     believed = list(tree.reach_from(calls))
     told = sums.sums(believed + tree.models_of(believed))
-    if '--inner' in options:
+    if given.inner:
         print('\n'.join(inner_lines(tree, calls)))
-    if '--bare' in options:
+    if given.bare:
         print('\n'.join(sorted(bare(tree))))
-    if '--renew' in options:
+    if given.renew:
         page = renew(PAGE.read_text(), counts)
         PAGE.write_text(page)
         sums.renew(told, KINDS)

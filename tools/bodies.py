@@ -25,6 +25,9 @@ without this one too. Of a body that stands alone in a run, a test meets it that
 one without any body. A test that reaches its time limit is told as such, and meets a body that hangs alone: on a busy machine any
 test may. Bodies that name one test, or that edit one text, are not put together. What is undecided is run alone.
 """
+from __future__ import annotations
+
+import argparse
 import re
 import shutil
 import subprocess
@@ -33,18 +36,22 @@ import tempfile
 import time
 from itertools import combinations
 from pathlib import Path
+from typing import Iterable, Iterator, Optional, Sequence
 
-TOP = Path(__file__).resolve().parent.parent
+from sources import TOP
+
 BODIES = TOP / 'tests' / 'bodies'
 LONGEST = 1500  # seconds of one run
 NO_END = ' (no end within its time limit)'
+Outcome = Optional[tuple[list[str], list[str]]]          # the tests that failed and those that passed, if the run came to an end
 
 
 class Body:
     """One wrong body: its changes, and the test that is to meet it."""
 
-    def __init__(self, file):
-        self.name, self.says, self.alone, self.hangs, self.changes, at, old = file.stem, '', False, False, [], None, None
+    def __init__(self, file: Path) -> None:
+        self.name, self.says, self.alone, self.hangs, at, old = file.stem, '', False, False, '', ''
+        self.changes: list[tuple[str, str, str]] = []
         for line in filter(str.strip, file.read_text().split('\n')):
             word, _, rest = line.partition(': ')
             if word == 'says':
@@ -62,7 +69,7 @@ class Body:
             else:
                 sys.exit(f"bodies: {file.name}: {line}")
 
-    def put_into(self, texts):
+    def put_into(self, texts: dict[str, str]) -> Optional[dict[str, str]]:
         """The texts of the files with this body, or None where it can't be put there."""
         changed = dict(texts)
         for file, old, new in self.changes:
@@ -73,9 +80,9 @@ class Body:
         return changed
 
 
-def groups(bodies):
+def groups(bodies: Iterable[Body]) -> list[list[Body]]:
     """Bodies that can stand in one tree, each naming a test of its own."""
-    found = []
+    found: list[list[Body]] = []
     for body in bodies:
         if body.put_into({}) is None:
             sys.exit(f"bodies: {body.name} can't be put into the tree")
@@ -90,14 +97,15 @@ def groups(bodies):
     return found
 
 
-def together(bodies):
-    texts = {}
+def together(bodies: Iterable[Body]) -> Optional[dict[str, str]]:
+    """The texts of the files with all of these bodies, or None if they can't stand together."""
+    texts: Optional[dict[str, str]] = {}
     for body in bodies:
         texts = None if texts is None else body.put_into(texts)
     return texts
 
 
-def marks(count):
+def marks(count: int) -> tuple[int, list[set[int]]]:
     """For each of so many bodies the runs in which it stands: of as few runs as serve, half, and no two the same."""
     runs = 1
     while len(list(combinations(range(runs), max(runs // 2, 1)))) < count:
@@ -108,15 +116,16 @@ def marks(count):
 class Room:
     """A copy of the tree, in which one crate of tests is run at a time."""
 
-    def __init__(self, folder):
-        self.top, self.passed = Path(folder) / 'tree', {}
-        shutil.copytree(TOP / 'crates', self.top / 'crates', ignore=shutil.ignore_patterns('out', 'must-fail'))
+    def __init__(self, folder: str) -> None:
+        self.top = Path(folder) / 'tree'
+        self.passed: dict[str, set[str]] = {}
+        shutil.copytree(TOP / 'crates', self.top / 'crates', ignore=shutil.ignore_patterns('out', 'must-fail', 'wrong'))
         for file in ('crates.txt', 'HANDLES'):
             shutil.copy(TOP / file, self.top)
 
-    def run(self, crate, bodies):
+    def run(self, crate: str, bodies: Sequence[Body]) -> Optional[list[str]]:
         """Which tests fail with these bodies; None where the run came to no end."""
-        texts, began = together(bodies), time.time()
+        texts, began = together(bodies) or {}, time.time()
         for file, text in texts.items():
             (self.top / 'crates' / file).write_text(text)
         try:
@@ -130,16 +139,17 @@ class Room:
         self.passed.setdefault(crate, set()).update(found[1] if found else [])
         return found[0] if found else None
 
-    def by_these(self, crate, failed):
+    def by_these(self, crate: str, failed: Sequence[str]) -> list[str]:
         """Those of the tests that failed that pass in another run."""
         if not self.passed.get(crate, set()).issuperset(test.removesuffix(NO_END) for test in failed):
             self.run(crate, [])
         return [test for test in failed if test.removesuffix(NO_END) in self.passed[crate]]
 
-    def outcome(self, crate):
+    def outcome(self, crate: str) -> Outcome:
+        """The tests of a crate that fail, and those that pass; None where the run came to no end."""
         folder = self.top / 'crates' / crate
         if crate == 'test_program':
-            return rows_that_differ(self.told(folder, [], (folder / 'stdin').read_bytes()), (folder / 'stdout').read_text())
+            return rows_that_differ(self.told(folder, [], (folder / 'stdin').read_text()), (folder / 'stdout').read_text())
         if not crate.startswith('test_'):
             return program_that_differs(folder, self)
         told = self.told(folder, ['--test']).stdout
@@ -148,19 +158,18 @@ class Room:
         return (failed, passed) if re.search(r"^test result: ", told, re.M) else self.keep(told)
 
     @staticmethod
-    def told(folder, words, given=b''):
-        done = subprocess.run(['timeout', '--foreground', str(LONGEST), 'rt', 'try', *words], cwd=folder, input=given, capture_output=True)
-        done.stdout, done.stderr = done.stdout.decode(), done.stderr.decode()
-        return done
+    def told(folder: Path, words: Sequence[str], given: str = '') -> subprocess.CompletedProcess[str]:
+        return subprocess.run(['timeout', '--foreground', str(LONGEST), 'rt', 'try', *words], cwd=folder, input=given, capture_output=True, text=True)
 
     @staticmethod
-    def keep(told):
+    def keep(told: str) -> None:
         print('    ' + '\n    '.join(told.strip().split('\n')[-6:]), flush=True)
 
 
-def rows(text):
+def rows(text: str) -> dict[tuple[str, int], list[str]]:
     """Each command of a list with what it printed and its status, by the command and how often it stood there before."""
-    found, at = {}, None
+    found: dict[tuple[str, int], list[str]] = {}
+    at = None
     for line in text.split('\n'):
         if line.startswith('$ '):
             at = next((line[2:], n) for n in range(10000) if (line[2:], n) not in found)
@@ -171,17 +180,15 @@ def rows(text):
     return found
 
 
-def rows_that_differ(done, wanted):
+def rows_that_differ(done: subprocess.CompletedProcess[str], wanted: str) -> Outcome:
     told, right = rows(done.stdout), rows(wanted)
     if not told or 'run=ended' not in done.stderr:
         return Room.keep(done.stdout[-300:] + done.stderr)
-    parts = [], []
-    for at, lines in right.items():
-        parts[told.get(at) == lines].append(at[0])
-    return parts
+    differ = [at[0] for at, lines in right.items() if told.get(at) != lines]
+    return differ, [at[0] for at, lines in right.items() if told.get(at) == lines]
 
 
-def program_that_differs(folder, room):
+def program_that_differs(folder: Path, room: Room) -> Outcome:
     """The program on its stored arguments: whether it prints and ends as it must."""
     words = [word for file in sorted((folder / 'data').glob('*')) for word in ('--data', f"{file.name}=data/{file.name}")]
     done = room.told(folder, words + ['--', *(folder / 'args').read_text().split()])
@@ -192,13 +199,13 @@ def program_that_differs(folder, room):
     return ([], ['run']) if (done.stdout, done.returncode) == wanted else (['run'], [])
 
 
-def meets(body, failed):
+def meets(body: Body, failed: Iterable[str]) -> list[str]:
     """Those of the tests that failed that are the one which the body names, and fail as it says."""
     wanted = body.test + (NO_END if body.hangs else '')
     return [test for test in failed if (test.startswith(body.test) if body.crate == 'test_program' else test == wanted)]
 
 
-def is_there(body):
+def is_there(body: Body) -> bool:
     """Whether the test, or a command that begins as it says, is there."""
     if body.crate == 'test_program':
         return any(line.startswith(f"$ {body.test}") for line in (TOP / 'crates/test_program/stdout').read_text().split('\n'))
@@ -207,19 +214,20 @@ def is_there(body):
     return body.test == 'run' or file.is_file() and f"#[test]\nfn {name}(" in file.read_text()
 
 
-def rows_of_table():
+def rows_of_table() -> Iterator[tuple[str, str, list[tuple[str, str]]]]:
     """Each wrong body of the table of tests/bodies/README.md, and what it names: folders and names."""
     page = (TOP / 'tests/bodies/README.md').read_text()
     for line in re.findall(r"^\| .*\|$", page, re.M):
         says, named = (cell.strip() for cell in line[1:-1].rsplit('|', 1))
-        found, folder = [], None
+        found: list[tuple[str, str]] = []
+        folder = ''
         for one, name in re.findall(r"(?:(\w+)/)?(\w+)(?=[,;]|$)", named):
             folder = one or folder
             found += [(folder, name)] if folder else []
         yield says, named, found
 
 
-def faults(bodies):
+def faults(bodies: list[Body]) -> Iterator[str]:
     """What of the bodies and of the table is not so."""
     yield from (f"{body.name} can't be put into the tree" for body in bodies if body.put_into({}) is None)
     yield from (f"{body.name}: there is no {body.crate} {body.test}" for body in bodies if not is_there(body))
@@ -230,12 +238,12 @@ def faults(bodies):
         if not edits and told != 'Edit or test' and 'clause' not in told and "can't be written" not in told and told != '':
             yield f"tests/bodies/README.md: {says}: neither an edit nor a body is named"
     there = {('bodies', body.name) for body in bodies}
-    there |= {(file.parent.parent.name, file.stem) for file in (TOP / 'crates').glob('*/must-fail/*.edit')}
+    there |= {(file.parent.parent.name, file.stem) for folder in ('must-fail', 'wrong') for file in (TOP / 'crates').glob(f'*/{folder}/*.edit')}
     yield from (f"tests/bodies/README.md: {folder}/{name} is not there" for folder, name in sorted(named - there))
     yield from (f"tests/bodies/README.md: bodies/{name} is in no row" for folder, name in sorted(there - named) if folder == 'bodies')
 
 
-def told_of(body, failed):
+def told_of(body: Body, failed: Sequence[str]) -> bool:
     """What is told of a body with the tests that meet it; whether the one that it names is there."""
     named = meets(body, failed)
     others = [test for test in failed if test not in named]
@@ -249,17 +257,18 @@ def told_of(body, failed):
     return bool(named)
 
 
-def try_alone(room, body):
+def try_alone(room: Room, body: Body) -> bool:
     return told_of(body, room.by_these(body.crate, room.run(body.crate, [body]) or []))
 
 
-def try_group(room, group, once):
+def try_group(room: Room, group: Sequence[Body], once: bool) -> int:
     """How many of the bodies are met as they say."""
     crate = group[0].crate
     count, stand = marks(1 if once else len(group))
     stand = stand * len(group) if once else stand
-    runs = [room.run(crate, [body for body, at in zip(group, stand) if run in at]) for run in range(count)]
-    if None in runs:
+    found = [room.run(crate, [body for body, at in zip(group, stand) if run in at]) for run in range(count)]
+    runs = [run for run in found if run is not None]
+    if len(runs) < count:
         return sum(try_alone(room, body) for body in group) if len(group) > 1 else told_of(group[0], [])
     met = 0
     for body, at in zip(group, stand):
@@ -276,19 +285,23 @@ def try_group(room, group, once):
     return met
 
 
-def main():
-    words = sys.argv[1:]
-    once, names = '--once' in words, [word for word in words if not word.startswith('--')]
-    bodies = [Body(file) for file in sorted(BODIES.glob('*.edit')) if not names or file.stem in names]
-    if '--check' in words:
+def main() -> None:
+    words = argparse.ArgumentParser(description=__doc__, formatter_class=argparse.RawDescriptionHelpFormatter)
+    for flag in ('--check', '--list', '--once'):
+        words.add_argument(flag, action='store_true', help=argparse.SUPPRESS)
+    words.add_argument('names', nargs='*', metavar='NAME', help=argparse.SUPPRESS)
+    given = words.parse_args()
+    once = given.once
+    bodies = [Body(file) for file in sorted(BODIES.glob('*.edit')) if not given.names or file.stem in given.names]
+    if given.check:
         wrong = list(faults(bodies))
         print('\n'.join(wrong) or f"{len(bodies)} wrong bodies of tests/bodies; each can be put into the tree, and is in the table of tests/bodies/README.md")
         sys.exit(1 if wrong else 0)
-    by_crate = {}
+    by_crate: dict[str, list[Body]] = {}
     for body in bodies:
         by_crate.setdefault(body.crate, []).append(body)
     parts = [group for crate in sorted(by_crate) for group in groups(by_crate[crate])]
-    if '--list' in words:
+    if given.list:
         for group in parts:
             print(f"{group[0].crate}, {1 if once else marks(len(group))[0]} runs: {' '.join(body.name for body in group)}")
         return

@@ -2,20 +2,26 @@
 # What can be said of a change without a proof, in some ten seconds: layout, the pages beside the tree, scripts and C files. The gate
 # (.ci/run) does the rest. As a hook before each commit: ln -s ../../tools/check.sh .git/hooks/pre-commit
 #
-# usage: tools/check.sh       ends with 1 if anything is wrong; a program that isn't there is left out, and said
+# usage: tools/check.sh [layout]       ends with 1 if anything is wrong; a program that isn't there is left out, and said
 set -u
-cd "$(git rev-parse --show-toplevel)" || exit 1
+cd "$(git rev-parse --show-toplevel 2>/dev/null || echo "${0%/*}/..")" || exit 1
 wrong=0
 has() { command -v "$1" >/dev/null || { echo "left out: there is no $1"; return 1; }; }
 try() { "$@" || { echo "FAILED: $*"; wrong=1; }; }
 # the files of git with one of these endings
 files() { git ls-files -- "$@"; }
 
-if has rattle; then files 'crates/*.rt' 'crates/*.antt' | xargs -n 200 rattle fmt --check || wrong=1; fi
+if has rattle; then find crates -name out -prune -o \( -name '*.rt' -o -name '*.antt' \) -exec rattle fmt --check {} + || wrong=1; fi
+[ "${1:-}" != layout ] || exit $wrong
 if has python3; then try tools/compare.sh; fi
 try git diff --check HEAD
 if has shellcheck; then files '*.sh' wasmloop .ci/run .ci/nightly | xargs shellcheck --severity=warning || wrong=1; fi
-if has flake8; then files '*.py' | xargs flake8 --max-line-length=160 || wrong=1; fi
-if has mypy; then try mypy --strict --no-error-summary --cache-dir=/dev/null capi/python/wasmloop/__init__.py; fi
+width=$(sed -n 's/^max_line_length = //p' .editorconfig | head -n 1)
+if has flake8; then files '*.py' | xargs flake8 --max-line-length="$width" || wrong=1; fi
+if has mypy; then
+    try mypy --strict --no-error-summary --cache-dir=/dev/null capi/python/wasmloop/__init__.py
+    # those without types yet are read, and not checked
+    files 'tools/*.py' | grep -v -e /gate.py -e /prove.py -e /statement.py -e /wrong.py | xargs mypy --strict --no-error-summary --cache-dir=/dev/null || wrong=1
+fi
 if has cc; then for file in capi/wasmloop.c capi/names.c; do try cc -std=c99 -Wall -Wextra -Werror -Icapi/include -fsyntax-only "$file"; done; fi
 exit $wrong

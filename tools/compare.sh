@@ -9,10 +9,10 @@ wrong=0
 fail() { echo "FAILED: $1"; wrong=1; }
 for tool in audit citations picture header limits operations plain refused rules shape uv; do
     python3 "tools/$tool.py" || fail "tools/$tool.py"
-    if [ "${1:-}" = --self-test ] && grep -q -e '"--self-test"' "tools/$tool.py"; then
+    if [ "${1:-}" = --self-test ] && grep -q -e '"self-test"' "tools/$tool.py"; then
         planted=$(python3 "tools/$tool.py" --self-test) || { echo "$planted"; fail "tools/$tool.py --self-test"; }
     fi
 done
-python3 tools/bodies.py --check || fail "tools/bodies.py --check"
+for tool in bodies wrong; do python3 "tools/$tool.py" --check || fail "tools/$tool.py --check"; done
 [ "${1:-}" != --self-test ] || python3 tools/wrong.py --self-test || fail "tools/wrong.py --self-test"
 exit $wrong

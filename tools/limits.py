@@ -10,13 +10,14 @@ THINGS` or `N THINGS at most` has the number of a limit: of one that is called a
 over FEW, and the number after it, stand by the limit's name. tools/limits.txt has the files that have them in digits, each with how many;
 a number there may only shrink.
 """
+from __future__ import annotations
+
 import re
 import sys
-from pathlib import Path
+from typing import Iterator, Optional
 
-from sources import Sources as Texts, finish, plant
+from sources import TOP, Sources as Texts, asked, finish, plant
 
-TOP = Path(__file__).resolve().parent.parent
 PAGE, LIMITS, HELPS, LIST = "docs/LIMITS.md", "crates/limits/src/lib.rt", "crates/words/src/grammar.rt", "tools/limits.txt"
 FEW = 128
 CONSTANT = re.compile(r"\bconst ([A-Z][A-Z_0-9]*): \w+ = ([\d_]+);")
@@ -27,16 +28,16 @@ SENTENCE = re.compile(r"(?:[Mm]ore than|at most|deeper than) (\d[\d,]*)(?: ([a-z
 class Sources(Texts):
     """Those that this tool reads."""
 
-    def crate(self, crate):
+    def crate(self, crate: str) -> str:
         return "\n".join(self.text(str(file.relative_to(TOP))) for file in sorted((TOP / "crates" / crate / "src").rglob("*.rt")))
 
-    def proofs(self):
+    def proofs(self) -> Iterator[tuple[str, str]]:
         """The terms of each file of proofs, without imports and comments."""
         for file in sorted(TOP.glob("crates/*/proofs/**/*.antt")):
             name = str(file.relative_to(TOP))
             yield name, re.sub(r"(?m)^(?:use | *--)[^\n]*", "", self.text(name))
 
-    def strings(self):
+    def strings(self) -> Iterator[tuple[str, str]]:
         """Each string of the program's sources, with its file."""
         for file in sorted(TOP.glob("crates/*/src/**/*.rt")):
             name = str(file.relative_to(TOP))
@@ -45,18 +46,18 @@ class Sources(Texts):
                 yield from ((name, string) for string in re.findall(r'(?s)"((?:[^"\\]|\\.)*)"', text))
 
 
-def constants(sources):
+def constants(sources: Sources) -> dict[str, int]:
     return {name: int(value.replace("_", "")) for name, value in CONSTANT.findall(sources.text(LIMITS))}
 
 
-def value_of(sources, word):
+def value_of(sources: Sources, word: str) -> Optional[int]:
     """The number of a constant; None where there is no such one."""
     crate, _, name = word.rpartition("::")
     found = dict(CONSTANT.findall(sources.crate(crate or "limits")))
     return int(found[name].replace("_", "")) if name in found else None
 
 
-def rows(sources):
+def rows(sources: Sources) -> Iterator[tuple[str, list[int], list[str]]]:
     """The rows that name constants: what they are of, their numbers, and the constants."""
     for line in sources.text(PAGE).split("\n"):
         cells = [cell.strip() for cell in line.strip("|").split("|")] if line.startswith("|") else []
@@ -65,13 +66,13 @@ def rows(sources):
             yield from ([(cells[0], numbers_of(cells[1]), named)] if named else [])
 
 
-def numbers_of(cell):
+def numbers_of(cell: str) -> list[int]:
     """The numbers that a text has, a power of two too."""
     powers = [2 ** int(power) for power in re.findall(r"\b2\^(\d+)", cell)]
     return [int(number.replace(",", "")) for number in re.findall(r"\d[\d,]*\d|\d", re.sub(r"2\^\d+", "", cell))] + powers
 
 
-def wrong_rows(sources):
+def wrong_rows(sources: Sources) -> Iterator[str]:
     told = set()
     for thing, numbers, named in rows(sources):
         told.update(named)
@@ -85,7 +86,7 @@ def wrong_rows(sources):
         yield f"{PAGE}: has no row of {name}"
 
 
-def wrong_sentences(sources):
+def wrong_sentences(sources: Sources) -> Iterator[str]:
     known = constants(sources)
     for file, string in sources.strings():
         for number, thing in SENTENCE.findall(string):
@@ -95,14 +96,14 @@ def wrong_sentences(sources):
                 yield f"{file}: \"{string[:60]}\": {value:,} is no limit{f': {named}' if named else ''}"
 
 
-def unnamed(sources):
+def unnamed(sources: Sources) -> dict[str, int]:
     """How many numbers of each file of proofs a limit has too."""
     known = {value + more for value in constants(sources).values() if value > FEW for more in (0, 1)}
     counts = {name: sum(int(number) in known for number in DIGITS.findall(text)) for name, text in sources.proofs()}
     return {name: count for name, count in counts.items() if count}
 
 
-def wrong_proofs(sources):
+def wrong_proofs(sources: Sources) -> Iterator[str]:
     now, listed = unnamed(sources), {}
     for line in sources.text(LIST).splitlines():
         if not line.startswith("#"):
@@ -113,7 +114,7 @@ def wrong_proofs(sources):
             yield f"{name}: it has {now.get(name, 0)} limits in digits, and {listed.get(name, 0)} by {LIST}"
 
 
-def faults(sources):
+def faults(sources: Sources) -> list[str]:
     return [*wrong_rows(sources), *wrong_sentences(sources), *wrong_proofs(sources)]
 
 
@@ -128,10 +129,10 @@ PLANTED = [
 ]
 
 
-def main():
-    if "--self-test" in sys.argv[1:]:
-        sys.exit(1 if plant(PLANTED, Sources(), faults) else 0)
-    sources = Sources()
+def main() -> None:
+    given, sources = asked(__doc__, "self-test"), Sources()
+    if given.self_test:
+        sys.exit(1 if plant(PLANTED, sources, faults) else 0)
     found = faults(sources)
     sentences = sum(len(SENTENCE.findall(string)) for _, string in sources.strings())
     finish(found, f"{len(constants(sources))} limits, {len(list(rows(sources)))} rows, {sentences} numbers in sentences, "

@@ -4,6 +4,8 @@ A believed line is one of a public call's contract, of a definition that one rea
 name, an operator or a number for another, a conjunct or a field left out, a premise made false, or another import under a name. It
 is noticed if `tools/audit.py` ends with 1 in the copy and names a sum.
 """
+from __future__ import annotations
+
 import random
 import re
 import shutil
@@ -11,17 +13,19 @@ import subprocess
 import sys
 import tempfile
 from pathlib import Path
+from typing import Iterator, Sequence
 
 import audit
 import sums
+from sources import TOP
 
 OTHERS = dict(pair.split() for pair in ('≡ ≢', '≢ ≡', '≤ <', '< ≤', '× ⊎', '⊎ ×', '+ *', '- +', '* +', '== ≤', '∷ ++', '++ ∷'))
 UNREAD = re.compile(r"\s*(--|//|#\[|ghost |pub mod |use |module |infix|\}|\{|$)")
 
 
-def believed(tree):
+def believed(tree: audit.Tree) -> Iterator[tuple[Path, int, tuple[str, ...]]]:
     """The lines that are believed: of each its file, its number, and names that it may use."""
-    read = {}
+    read: dict[Path, list[str]] = {}
     for node in tree.reach_from(audit.calls_of(tree, audit.listed(audit.read(audit.PAGE)))):
         if node.is_call and len(sums.clauses_of(node)) == 1:
             continue
@@ -33,7 +37,7 @@ def believed(tree):
                 yield from [(node.file, at, tuple(sorted(used)))] if used else []
 
 
-def changes(line, names):
+def changes(line: str, names: Sequence[str]) -> Iterator[tuple[str, str]]:
     """The changes that a line admits: what each is called, and the line with it."""
     told = re.sub(r"(--|//).*", lambda found: ' ' * len(found.group()), line)
     if re.match(r"(ghost )?use ", line):
@@ -59,20 +63,18 @@ def changes(line, names):
         yield 'premise', line[:found.end()] + '⊥ → ' + line[found.end():]
 
 
-def noticed(top):
+def noticed(top: Path) -> list[str]:
     done = subprocess.run([sys.executable, 'tools/audit.py'], cwd=top, capture_output=True, text=True)
-    return done.returncode == 1 and re.findall(r"^docs/AUDIT.sums: \w+ (.*)", done.stderr, re.M)
+    return re.findall(r"^docs/AUDIT.sums: \w+ (.*)", done.stderr, re.M) if done.returncode == 1 else []
 
 
-def main(words):
-    count = int(words[words.index('--mutate') + 1])
-    seed = int(words[words.index('--seed') + 1]) if '--seed' in words else 1
+def main(count: int, seed: int) -> None:
     chance, found, made = random.Random(seed), 0, 0
     lines = sorted(set(believed(audit.Tree())))
     with tempfile.TemporaryDirectory() as folder:
         top = Path(folder)
         for part in ('crates', 'docs', 'tools'):
-            shutil.copytree(audit.TOP / part, top / part, ignore=shutil.ignore_patterns('out', 'target', 'proofs'))
+            shutil.copytree(TOP / part, top / part, ignore=shutil.ignore_patterns('out', 'target', 'proofs'))
         kinds = 'name', 'operator', 'number', 'conjunct', 'field', 'premise', 'import'
         while made < count:
             kind = kinds[made % len(kinds)]  # each kind in turn
@@ -81,7 +83,7 @@ def main(words):
             able = [line for what, line in changes(text[at], names) if what == kind]
             if not able:
                 continue
-            line, copy = chance.choice(able), top / file.relative_to(audit.TOP)
+            line, copy = chance.choice(able), top / file.relative_to(TOP)
             copy.write_text('\n'.join(text[:at] + [line] + text[at + 1:]))
             seen = noticed(top)
             shutil.copy(file, copy)

@@ -1,15 +1,19 @@
 #!/usr/bin/env python3
-"""Compares what the crates say of each operation with its row in tools/operations.txt.
+"""Compares what the crates say of each operation with its row in tools/operations.txt, and writes what can be written.
 
     python3 tools/operations.py               status 1 if a place differs from the table, lacks a row or has one more
+    python3 tools/operations.py --write       writes the places of which the table has all; then the same
     python3 tools/operations.py --rows NAME   what each place has to say of an operation, and in which line, or behind which one if it isn't there
-    python3 tools/operations.py --self-test   plants a fault in a copy of each place; status 1 if one isn't found
+    python3 tools/operations.py --self-test   plants a fault in a copy of each place; status 1 if one isn't found, or a row more isn't written
 """
+from __future__ import annotations
+
 import re
 import sys
+from typing import Iterator
 
-from rows import ByOpcode, Listed, Place, Row, Types
-from sources import Sources, finish, plant
+from rows import ByOpcode, Listed, Place, Row, Types, keep, write
+from sources import Sources, asked, finish, plant
 
 TABLE = "tools/operations.txt"
 SORTS = {"Unary": "IntUnary", "Binary": "IntBinary", "Compare": "IntCompare", "Convert": "Conversion"}
@@ -22,30 +26,31 @@ DISPATCHED = tuple(f"{of}_{kind}" for of in ("i32", "i64") for kind in ("unary",
 class Operation(Row):
     """An operation, as the table has it."""
 
-    def __init__(self, core, line):
-        cells = ["" if cell == "-" else cell for cell in re.split(r" {2,}", line)] + [""] * 5
-        self.core, self.name, self.variant, told, self.type, self.behind = core, *cells[1:6]
-        self.code, self.hex = int(cells[0], 16), "0x" + cells[0]
-        self.kind, *self.words = told.split() or [""]
+    def __init__(self, core: str, line: str) -> None:
+        code, self.name, self.variant, told, self.type, self.behind = (["" if it == "-" else it for it in re.split(r" {2,}", line)] + [""] * 5)[:6]
+        self.core, self.code, self.hex = core, int(code, 16), "0x" + code
+        self.kind, self.words = told.partition(" ")[0], told.split()[1:]
         self.last, self.width = self.words[-1] if self.words else "", self.words[1] if len(self.words) > 1 else ""
         self.of, self.function, self.lower = self.name[:3].upper(), self.name.replace(".", "_"), self.kind.lower()
         self.sort, self.letter, self.bits, self.fields = SORTS.get(self.kind), self.lower[:1], self.name[1:3], FIELDS.get(self.behind, "(u32)")
         self.computes = re.sub(r"extend(\d+)_s", r"extend_s \1", self.name.partition(".")[2])
         self.rust = ", ".join(f"{self.sort}::{word}" if self.sort and word == self.last else word for word in self.words)
         self.antt = " ".join([self.kind] + [f"{self.lower}.{word}" if self.sort and word == self.last else word for word in self.words])
-        self.marks = {self.name, f"{self.kind} {self.of}", self.kind or "-", self.behind or "-", "*"} if self.variant else {f"float {self.behind}", "float"}
+        known = {self.name, f"{self.kind} {self.of}", self.kind or "-", self.behind or "-", "*"}
+        self.marks = frozenset(known if self.variant else {f"float {self.behind}", "float"})
         self.extends = self.last.lower()
-        self.takes, _, self.leaves = self.type.upper().partition(" -> ")
+        self.takes = self.type.upper().partition(" -> ")[0]
+        self.leaves = self.type.upper().partition(" -> ")[2]
 
-    def of_all(self, rows):
+    def of_all(self, rows: list[Operation]) -> None:
         """What the table says of it beside others: its place among the operators of its kind and type, the names of both types' operator."""
         alike = [row for row in rows if row.sort and row.kind == self.kind]
         self.index = self.code - min([row.code for row in alike if row.of == self.of], default=self.code)
         self.names = "; ".join(row.name for row in alike if row.last == self.last)
 
 
-def table(sources):
-    core, rows = None, []
+def table(sources: Sources) -> list[Operation]:
+    core, rows = "", []
     for line in sources.text(TABLE).split("\n"):
         if line.startswith("Core"):
             core = line
@@ -61,17 +66,17 @@ OPS, TESTS = f"{SYNTAX}/ops.rt", "crates/test_modules/src/operators.rt"
 HEAD, READS, RULES = "crates/decode/src/head.rt", "crates/decode/src/code.rt", "crates/validate/src/instructions.rt"
 INT, DOC, AT = r"^/// `(?P<text>i\d\d\.\w+)`(?:(?!pub fn).)*pub fn (?P<key>\w+)\(", "/// `{name}`: ..\npub fn {function}(", "at, slots, top"
 VARIANT, OP = r"^ *(?P<key>\w+)(?:\([^\n]*\))?,$", r"^(?P<in> *)Op::(?P<key>\w+)(?:\([^)]*\))? => (?P<text>[^\n]*(?:\n(?P=in) {4}[^\n]*)*(?:\n(?P=in)\))?)"
-WHOLE = {"end": r"\Z"}
+WHOLE = r"\Z"
 WIDE = "(Width::{width}, Extension::{last}) => "
 ALL = [
     Place("crates/syntax/src/op.rt", {"else": "Else(u16),", "*": "{variant}{fields},"}, VARIANT, r"pub enum Op \{", besides=("Long",)),
     Place("crates/syntax/src/operator.rt", {f"{OPERATORS}|Convert": "{last},"}, r"^ *(?P<key>\w+),$",
-          besides=("Signed", "Unsigned", "One", "Two", "Four"), **WHOLE, grouped=True),
+          besides=("Signed", "Unsigned", "One", "Two", "Four"), end=WHOLE, grouped=True),
     Place("crates/syntax/src/instruction.rt", {
         OPERATORS: "{kind}(ValType, {sort}),", "Convert": "Convert(Conversion),", "Eqz": "Eqz(ValType),", "Const": "Const(Value),",
         "Load|Store": "{kind}(ValType, MemArg),", "LoadNarrow": "LoadNarrow(ValType, Width, Extension, MemArg),",
         "StoreNarrow": "StoreNarrow(ValType, Width, MemArg),", "labels": "BrTable(Lent<'a, u32>, u32),", "blocktype": "{variant}(BlockType),",
-        f"{INDEX}|type": "{variant}(u32),", "*": "{variant},"}, VARIANT, besides=("Plain",), **WHOLE, grouped=True),
+        f"{INDEX}|type": "{variant}(u32),", "*": "{variant},"}, VARIANT, besides=("Plain",), end=WHOLE, grouped=True),
     Place("crates/syntax/specs/Operations.antt", {
         "else": "operation_of (flat.Else _) = op.Else", "end": "operation_of flat.End = op.End",
         "blocktype": "operation_of (flat.{variant} form _ index) = op.{variant} (block_type_of form index)",
@@ -143,16 +148,18 @@ ALL = [
         "else": "{hex} => CodedOp::new(Op::Else(0))", "end": "{hex} => CodedOp::new(Op::End)"},
         r"^ *(?P<key>0x\w\w) => .*?(?P<text>CodedOp::\w+\((?:Op::End|Op::Else\(0\)|\w+)\))", r"fn operation\("),
     Place(READS, {"labels|type": "fn {name}(\nbehind_opcode {hex}"},
-          r"^fn (?P<key>br_table|call_indirect)\(.*?behind_opcode (?P<text>0x\w\w)", **WHOLE),
+          r"^fn (?P<key>br_table|call_indirect)\(.*?behind_opcode (?P<text>0x\w\w)", end=WHOLE),
     Listed("crates/places/src/index.rt", {"float": 'Some("{name}"),', "*": 'Some("{name}"),'}, r"(?P<text>Some\([^)]*\),|None,)", "^pub.*NAMES: ", "None,"),
     Listed("crates/places/specs/OperationNames.antt", {"float": 'Some (codes "{name}")', "*": 'Some (codes "{name}")'}, r"(?P<text>Some [^∷]*|None)",
            "^index_of_instructions =", "None"),
     ByOpcode(PLACES, {"float memarg": "2", "float": "0", "none": "0", "memarg|type": "2", f"{INDEX}|zero|Const|blocktype": "1", "*": "0"}, "immediates"),
-    ByOpcode(PLACES, {
-        "block|loop": "self.begin(false)", "if": "self.begin(true)", "else": "{{", "end": "return if self.end() {{ 2 }} else {{ 1 }}",
-        "float": "{{}}", "none": "{}", "*": "{{}}"}, "pass"),
-    Place(PLACES, {"br_table": "const BR_TABLE: u8 = {hex};"}, r"^const (?P<key>BR_TABLE): u8 = \w+;", **WHOLE),
-    Place("crates/places/src/segments.rt", {"end": "const END: u8 = {hex};"}, r"^const (?P<key>END): u8 = \w+;", **WHOLE),
+    Place(PLACES, {"block": "const BLOCK: u8 = {hex};"}, r"^const (?P<key>BLOCK): u8 = \w+;", end=WHOLE),
+    Place(PLACES, {"loop": "const LOOP: u8 = {hex};"}, r"^const (?P<key>LOOP): u8 = \w+;", end=WHOLE),
+    Place(PLACES, {"if": "const IF: u8 = {hex};"}, r"^const (?P<key>IF): u8 = \w+;", end=WHOLE),
+    Place(PLACES, {"else": "const ELSE: u8 = {hex};"}, r"^const (?P<key>ELSE): u8 = \w+;", end=WHOLE),
+    Place(PLACES, {"end": "const END: u8 = {hex};"}, r"^const (?P<key>END): u8 = \w+;", end=WHOLE),
+    Place(PLACES, {"br_table": "const BR_TABLE: u8 = {hex};"}, r"^const (?P<key>BR_TABLE): u8 = \w+;", end=WHOLE),
+    Place("crates/places/src/segments.rt", {"end": "const END: u8 = {hex};"}, r"^const (?P<key>END): u8 = \w+;", end=WHOLE),
     ByOpcode("crates/sentences/src/extension.rt", {"*": "return None"}, "of_operation", False),
     Types("crates/validate/specs/Typing.antt", {BRACKET: None, "Convert": "{last}", "*": "{kind}"},
           r"^(?:InstrTyped c|ConversionTurns) \(?(?P<key>\w+)[^\n=]*=(?P<rule>[^\n]*(?:\n    [^\n]*)*)"),
@@ -160,14 +167,14 @@ ALL = [
           r"(?:^    fn |Conversion::)(?P<key>\w+)(?P<rule>(?:(?!^    \}$|Conversion::).)*)"),
     Place(RULES, {BRACKET: None, "*": "Instr::{kind}(..) => .."}, r"^ *Instr::(?P<key>\w+)(?:\([^\n]*?\))? => (?P<text>)", "pub fn instruction"),
     Place("crates/numeric/specs/ByOperator.antt", {"Unary": "unary {last} N i = i{computes} N i", "Binary|Compare": "{lower} {last} N i j = i{computes} N i j"},
-          r"^(?P<key>(?:unary|binary|compare) \w+) N i(?: j)? = (?:Ok \()?(?P<text>i\w+ (?:\d+ )?N i(?: j)?)", **WHOLE, grouped=True),
+          r"^(?P<key>(?:unary|binary|compare) \w+) N i(?: j)? = (?:Ok \()?(?P<text>i\w+ (?:\d+ )?N i(?: j)?)", end=WHOLE, grouped=True),
     Place("crates/numeric/src/dispatch.rt", {
         "Unary": "{sort}::{last} => {function}(value),", "Binary": "{sort}::{last} => Ok({function}(lhs, rhs)),",
         "Compare": "{sort}::{last} => {function}(lhs, rhs),"},
-        r"^ *(?P<text>Int\w+::\w+) => (?:Ok\()?(?P<key>i\d\d_\w+)\(", **WHOLE, grouped=True),
-    Place("crates/numeric/src/int32.rt", {of: DOC for of in "Unary I32|Binary I32|Compare I32|Eqz I32".split("|")}, INT, **WHOLE, grouped=True),
-    Place("crates/numeric/src/int64.rt", {of: DOC for of in "Unary I64|Binary I64|Compare I64|Eqz I64".split("|")}, INT, **WHOLE, grouped=True),
-    Place("crates/numeric/src/convert.rt", {"Convert": DOC}, INT, **WHOLE),
+        r"^ *(?P<text>Int\w+::\w+) => (?:Ok\()?(?P<key>i\d\d_\w+)\(", end=WHOLE, grouped=True),
+    Place("crates/numeric/src/int32.rt", {of: DOC for of in "Unary I32|Binary I32|Compare I32|Eqz I32".split("|")}, INT, end=WHOLE, grouped=True),
+    Place("crates/numeric/src/int64.rt", {of: DOC for of in "Unary I64|Binary I64|Compare I64|Eqz I64".split("|")}, INT, end=WHOLE, grouped=True),
+    Place("crates/numeric/src/convert.rt", {"Convert": DOC}, INT, end=WHOLE),
     Place("crates/numeric/src/lib.rt", {NUMERIC: "{function},"}, r"\b(?P<key>i(?:32|64)_\w+)(?P<text>)", "^mod trap;", r"\Z", besides=DISPATCHED, grouped=True),
     Place("crates/engine/src/act.rt", {
         "i32.add": f"Op::I32Add => first_sum({AT}, cue),", "i32.eqz": f"Op::I32Eqz => first_test_zero({AT}, cue),",
@@ -180,12 +187,12 @@ ALL = [
         "StoreNarrow": f"Op::{{variant}}(align, to) => store_narrow(state, {AT}, {{of}}, {{width}}, arg(align, to)),", "*": "Op::{variant} => .."}, OP,
          r"match \*op \{", besides=("Long",), grouped=True),
     Place("crates/interp/proofs/Slots/Ranges.antt", {"Binary": "binary_low {last} a b h l = .."},
-          r"^(?P<key>binary_low \w+)(?P<text>[^:=\n]*=[^\n]*)", **WHOLE, grouped=True),
+          r"^(?P<key>binary_low \w+)(?P<text>[^:=\n]*=[^\n]*)", end=WHOLE, grouped=True),
     Place("crates/reduction/specs/Operators.antt", {"Convert": "converted {last} ({takes} n) = Some ({leaves} .."},
           r"^converted (?P<key>\w+) \(I\d\d n\) = Some \(I\d\d(?: \.\.)?", "converted : "),
     ByOpcode("crates/test_modules/src/decoding.rt", {
         "float": "Some(DecodeFault::Profile)", "none": "Some(DecodeFault::Opcode)", "else": "Some(DecodeFault::Opcode)", "*": "None"}, "refused_opcode"),
-    Place(TESTS, {NUMERIC: "{function}("}, r"\b(?P<key>i(?:32|64)_\w+)\(", repeated=True, besides=DISPATCHED, **WHOLE, grouped=True),
+    Place(TESTS, {NUMERIC: "{function}("}, r"\b(?P<key>i(?:32|64)_\w+)\(", repeated=True, besides=DISPATCHED, end=WHOLE, grouped=True),
 ]
 
 
@@ -219,7 +226,7 @@ PLANTED = [  # what is wrong, and where which text becomes which
     ("a name", "crates/places/src/index.rt", "i64.shr_u", "i64.shr_s"),
     ("a name of the index", "crates/places/specs/OperationNames.antt", "i64.shr_u", "i64.shr_s"),
     ("a length", PLACES, r"0x28\.\.=0x3e => 2", "0x28..=0x3d => 2"),
-    ("a bracket that is passed", PLACES, "0x02 \\| 0x03 =>", "0x03 =>"),
+    ("the opcode of a bracket", PLACES, "IF: u8 = 0x04", "IF: u8 = 0x05"),
     ("the opcode of a constant", PLACES, "BR_TABLE: u8 = 0x0e", "BR_TABLE: u8 = 0x0f"),
     ("the opcode of an end", "crates/places/src/segments.rt", "0x0b", "0x0c"),
     ("an operation that is told as newer", "crates/sentences/src/extension.rt", r"0x12\.\.=0x15", "0x11..=0x15"),
@@ -242,7 +249,7 @@ PLANTED = [  # what is wrong, and where which text becomes which
 ]
 
 
-def faults(sources):
+def faults(sources: Sources) -> Iterator[str]:
     """What differs; in changed texts, what these can have changed."""
     rows = table(sources)
     for before, row in zip(rows, rows[1:]):
@@ -253,15 +260,29 @@ def faults(sources):
             yield from place.differences(sources, rows)
 
 
-def main():
-    words, sources = sys.argv[1:], Sources()
-    if "--self-test" in words:
-        sys.exit(1 if plant(PLANTED, sources, faults) else 0)
+def left_unwritten() -> list[str]:
+    """What differs still, of two rows more, once all is written that can be: bodies, tests and meanings, which have `..` or an open bracket."""
+    more = "".join(f"c{code}  {of}.swap   {of.upper()}Swap   Unary {of.upper()} Swap   {of} -> {of}\n" for code, of in ((5, "i32"), (6, "i64")))
+    sources = Sources({TABLE: Sources().text(TABLE) + more})
+    before = len(list(faults(sources)))
+    write(sources, table(sources), ALL)
+    left = [fault for fault in faults(Sources(sources.changed)) if not re.search(r"\.\.|\(`", fault)]
+    print(f"{'MISSED' if left or before < 30 else 'written'}: two rows more, which {before} places lack{': ' + '; '.join(left) if left else ''}")
+    return left if before >= 30 else ["too few places"]
+
+
+def main() -> None:
+    given, sources = asked(__doc__, "self-test", "write", rows="NAME"), Sources()
+    if given.self_test:
+        sys.exit(1 if plant(PLANTED, sources, faults) or left_unwritten() else 0)
     rows = table(sources)
-    if "--rows" in words:
-        name = words[words.index("--rows") + 1]
-        print("\n".join(told for place in ALL for told in place.told(sources, rows, name)) or f"{TABLE} has no row for {name}")
+    if given.rows:
+        print("\n".join(told for place in ALL for told in place.told(sources, rows, given.rows)) or f"{TABLE} has no row for {given.rows}")
         return
+    if given.write:
+        write(sources, rows, ALL)
+        keep(sources)
+        sources = Sources()
     finish(list(faults(sources)), f"{len(rows)} operations, {len(ALL)} places")
 
 

@@ -23,9 +23,8 @@ def main(words):
     if not rtlib:
         build.say("this needs a kit whose rt build.py knows; `rt check` in the crate's folder does the same, one crate after the other")
         return 1
-    crate = build.crate_of(rtlib, words[0])
-    at_once, jobs = build.shares(rtlib)
-    plan = build.Plan(crate, at_once, jobs, below_alone=True)
+    (crate,) = build.crates_of(rtlib, words[:1])
+    plan = build.Plan([crate], *build.shares(), below_alone=True)
     build.over_statements(plan.crates)
     # (others wait until this process ends)
     crate.held = rtlib.lock([*plan.crates, crate])

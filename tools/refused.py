@@ -15,13 +15,14 @@ crates' sources that makes such a value. It must be
 
 WORDS has the words for it. Two crates give back what they took, where memory was refused: GIVEN_BACK.
 """
+from __future__ import annotations
+
 import re
 import sys
-from pathlib import Path
+from typing import Iterator, Optional
 
-from sources import Sources as Texts, finish, plant
+from sources import TOP, Sources as Texts, asked, finish, plant
 
-TOP = Path(__file__).resolve().parent.parent
 LIST = "tools/refused.txt"
 WORDS = re.compile(r"\bAllocError\b|\b(?:\w+Fault|Refusal|Refused|Outcome|JobEnd)::(?:Memory|NoMemory)\b|(?<!::)\b(?:MEMORY|NO_MEMORY|NoMemory)\b")
 GIVEN_BACK = re.compile(r"\bErr\((?:self|same|core)\)")
@@ -36,7 +37,7 @@ TOO_MUCH = re.compile(r"\b(?:with_capacity|reserve\w*|try_reserve\w*)\((?:[^;]*\
 class Sources(Texts):
     """Those that this tool reads."""
 
-    def code(self):
+    def code(self) -> Iterator[tuple[str, list[str]]]:
         """Each source of a crate that isn't one of tests or of an example: its name and its lines, without comments and strings."""
         for file in sorted(TOP.glob("crates/*/src/**/*.rt")):
             name = str(file.relative_to(TOP))
@@ -44,11 +45,11 @@ class Sources(Texts):
                 yield name, re.sub(r'(?m)//.*$|"(?:[^"\\\n]|\\.)*"', "", self.text(name)).split("\n")
 
 
-def depth(line):
+def depth(line: str) -> int:
     return len(line) - len(line.lstrip())
 
 
-def condition(lines, at):
+def condition(lines: list[str], at: int) -> str:
     """What a line stands under: the nearest one before it that is less deep, with its first lines where it is the end of a longer one."""
     head = at - 1
     while head > 0 and (not lines[head].strip() or depth(lines[head]) >= depth(lines[at])):
@@ -59,7 +60,7 @@ def condition(lines, at):
     return " ".join(line.strip() for line in lines[first:head + 1])
 
 
-def is_passed_on(text):
+def is_passed_on(text: str) -> bool:
     """Whether a pattern or a test of a word of want stands there."""
     left, arm, _ = text.partition("=>")
     if arm:
@@ -67,7 +68,7 @@ def is_passed_on(text):
     return bool(re.search(r"\bif\b.*==", text) and PASSED_ON.search(text))
 
 
-def alternatives(pattern):
+def alternatives(pattern: str) -> list[str]:
     """The patterns of which a pattern is made by `|`, also within one pair of brackets, as in `Err(A | B)`."""
     inner = re.fullmatch(r"([\w:]+)\((.*)\)", pattern)
     if inner and "|" in inner[2]:
@@ -75,7 +76,7 @@ def alternatives(pattern):
     return pattern.split("|")
 
 
-def makes(line):
+def makes(line: str) -> str:
     """What of a line makes a value: of an import its other name, of a function on one line the body."""
     named = NAMED.match(line)
     if not named:
@@ -86,7 +87,7 @@ def makes(line):
     return rest.partition("{")[2] if re.search(r"\bfn\b", line) else rest
 
 
-def says_refused(name, line):
+def says_refused(name: str, line: str) -> bool:
     """Whether a line makes a value that says so."""
     if NO_CODE.match(line):
         return False
@@ -97,7 +98,7 @@ def says_refused(name, line):
     return bool(WORDS.search(made) or given_back)
 
 
-def conditions(sources):
+def conditions(sources: Sources) -> Iterator[tuple[str, int, str]]:
     """Under what the code says that memory was refused: file, line and condition, but for what is so by its type or is passed on."""
     for name, lines in sources.code():
         inside = ""
@@ -110,12 +111,12 @@ def conditions(sources):
                 yield name, at + 1, line.strip() if "=>" in line or not under else under
 
 
-def lines_of(found):
+def lines_of(found: list[tuple[str, int, str]]) -> list[str]:
     """The lines that the list has to have for these conditions."""
     return sorted({f"{name}: {under}" for name, _, under in found})
 
 
-def faults(sources, found=None):
+def faults(sources: Sources, found: Optional[list[tuple[str, int, str]]] = None) -> list[str]:
     found = list(conditions(sources)) if found is None else found
     listed, told = [line for line in sources.text(LIST).split("\n") if line and not line.startswith("#")], lines_of(found)
     return ([f"{name}:{at}: memory is said to be refused under a condition that {LIST} lacks: {under}" for name, at, under in found
@@ -125,8 +126,8 @@ def faults(sources, found=None):
 
 
 PLANTED = [  # what is wrong, and where which text becomes which
-    ("an operation has no memory", "crates/resident/src/calling.rt", r"match self\.machine\(alloc\) \{",
-     "if fuel == 12345 {\n            return Err(self);\n        }\n        match self.machine(alloc) {"),
+    ("a step has no memory", "crates/phases/src/slices.rt", r"let mut core = self;",
+     "if self.host.copied == 12345 {\n            return Err(self);\n        }\n        let mut core = self;"),
     ("an export's number is out of memory", "crates/wasmloop_c/src/instances.rt", r"return Err\(NONE\);", "return Err(MEMORY);"),
     ("a length is answered as want of memory", "crates/phases/src/work.rt", r"let request = requests\.last\(\) \+ 1;",
      "if op == 7 {\n        return NO_MEMORY;\n    }\n    let request = requests.last() + 1;"),
@@ -143,12 +144,12 @@ PLANTED = [  # what is wrong, and where which text becomes which
 ]
 
 
-def main():
-    if "--self-test" in sys.argv[1:]:
-        sys.exit(1 if plant(PLANTED, Sources(), faults) else 0)
-    sources = Sources()
+def main() -> None:
+    given, sources = asked(__doc__, "self-test", "list"), Sources()
+    if given.self_test:
+        sys.exit(1 if plant(PLANTED, sources, faults) else 0)
     told = list(conditions(sources))
-    if "--list" in sys.argv[1:]:
+    if given.list:
         print(*lines_of(told), sep="\n")
         return
     finish(faults(sources, told), f"{len(lines_of(told))} conditions under which memory is said to be refused")

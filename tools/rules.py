@@ -9,13 +9,14 @@ tools/rules.txt lists the rules of chapters 3 to 5. A comment right above a case
 its first line for all its cases, names its rules: `-- Core 1.0, 4.4.5: br_if`, several with `;` between; or it begins with `-- own: `. In the files
 of FILES each case has such a comment; elsewhere in specs/ a case may have one.
 """
+from __future__ import annotations
+
 import re
 import sys
-from pathlib import Path
+from typing import Iterator
 
-from sources import Sources as Texts, finish, plant
+from sources import TOP, Sources as Texts, asked, finish, plant
 
-TOP = Path(__file__).resolve().parent.parent
 LIST = "tools/rules.txt"
 FILES = {
     "leb": ["Spelling"], "syntax": ["Language", "Instructions", "Binary"], "numeric": ["Integer", "ByOperator"], "instance": ["Store", "Fresh"],
@@ -37,7 +38,7 @@ OF_INSTRUCTIONS = re.compile(r"\d\.\d (?:3\.3\.[1-58]|4\.4\.[1-58]): ([\w.]+)$")
 class Sources(Texts):
     """Those that this tool reads."""
 
-    def rules(self):
+    def rules(self) -> Iterator[tuple[str, str]]:
         """Each rule of the list, and why it isn't stated, or an empty text."""
         for line in self.text(LIST).split("\n"):
             if line and not line.startswith("#"):
@@ -45,20 +46,20 @@ class Sources(Texts):
                 place, _, names = head.partition(": ")
                 yield from ((f"{place}: {name}", why) for name in names.split(" ; "))
 
-    def specs(self):
+    def specs(self) -> Iterator[tuple[str, list[str]]]:
         """The lines of each file of definitions."""
         for file in sorted(TOP.glob("crates/*/specs/**/*.antt")):
             name = str(file.relative_to(TOP))
             yield name, self.text(name).split("\n")
 
 
-def named(line):
+def named(line: str) -> list[str]:
     """The rules that a comment names."""
     found = RULE.match(line)
     return [f"{found[1]} {found[2]}: {name}" for name in found[3].split("; ")] if found else []
 
 
-def is_marked(lines, at):
+def is_marked(lines: list[str], at: int) -> bool:
     """Whether the comment above a line names a rule, or says that what is below is own."""
     while at and re.match(r" *--|infix", lines[at - 1]):
         at -= 1
@@ -67,7 +68,7 @@ def is_marked(lines, at):
     return False
 
 
-def bare(lines):
+def bare(lines: list[str]) -> Iterator[int]:
     """The definitions of a file of which a case has no mark: the numbers of their lines."""
     all_marked, kind = True, None
     for at, line in enumerate(lines):
@@ -78,9 +79,9 @@ def bare(lines):
             yield at + 1
 
 
-def places(sources):
+def places(sources: Sources) -> dict[str, list[str]]:
     """Where each rule is named."""
-    found = {}
+    found: dict[str, list[str]] = {}
     for file, lines in sources.specs():
         for at, line in enumerate(lines):
             for rule in named(line):
@@ -88,7 +89,7 @@ def places(sources):
     return found
 
 
-def misplaced(sources):
+def misplaced(sources: Sources) -> Iterator[str]:
     """The comments that name an instruction's rule over a case which doesn't have that instruction."""
     for file, lines in sources.specs():
         for at, line in enumerate(lines):
@@ -101,7 +102,7 @@ def misplaced(sources):
                         yield f"{file}:{at + 1}: {rule} stands over a case without {word}: {below.strip()[:60]}"
 
 
-def faults(sources):
+def faults(sources: Sources) -> list[str]:
     stated, found = dict(sources.rules()), places(sources)
     faults = [f"{rule}: no definition names it" for rule, why in stated.items() if not why and rule not in found]
     faults += [f"{where[0]}: {rule}: tools/rules.txt has no such rule" for rule, where in found.items() if rule not in stated]
@@ -133,12 +134,12 @@ PLANTED = [  # what is wrong, and where which text becomes which
 ]
 
 
-def main():
-    if "--self-test" in sys.argv[1:]:
-        sys.exit(1 if plant(PLANTED, Sources(), faults) else 0)
-    sources = Sources()
+def main() -> None:
+    given, sources = asked(__doc__, "self-test", "list"), Sources()
+    if given.self_test:
+        sys.exit(1 if plant(PLANTED, sources, faults) else 0)
     stated, where, found = list(sources.rules()), places(sources), faults(sources)
-    if "--list" in sys.argv[1:]:
+    if given.list:
         for rule, why in stated:
             print(f"{rule}: {why or ', '.join(where.get(rule, ['nowhere']))}")
     finish(found, f"{sum(not why for _, why in stated)} rules of WebAssembly Core are to be named, {sum(bool(why) for _, why in stated)} have a reason why not")

@@ -12,13 +12,14 @@ neither blank nor a comment nor ghost. A level of control is an `if`, `match`, `
 an `else if` goes on where its `if` stands. A definition that another crate defines too has two crates, a type likewise. Each line of
 tools/shape.txt is one exception: how many, of what, where. The list may only shrink.
 """
+from __future__ import annotations
+
 import re
 import sys
-from pathlib import Path
+from typing import Iterator
 
-from sources import finish
+from sources import TOP, asked, finish
 
-TOP = Path(__file__).resolve().parent.parent
 LIST = TOP / "tools" / "shape.txt"
 MOST = {"arguments": 7, "lines": 40, "levels": 3, "columns": 200, "crates": 1}
 HEAD = """# What is more than tools/shape.py allows: how many, of what, in which file and function. This list may only shrink.
@@ -32,14 +33,14 @@ CLAUSE = re.compile(r"\b(requires|ensures|measure|decreases|invariant)\*?(?: \w+
 CONTROL = re.compile(r"\b(if|match|for|while|loop|else)\b|\|[^|]*\| *(?:-> [\w<>]+ *)?$")
 
 
-def blanked(text):
+def blanked(text: str) -> str:
     """The text with strings, characters and comments as blanks, so that each bracket is one."""
-    def blank(found):
+    def blank(found: re.Match[str]) -> str:
         return re.sub(r"[^\n]", " ", found.group())
     return re.sub(r'//[^\n]*|"(?:[^"\\]|\\.)*"|\'(?:[^\'\\\n]|\\[^\n]{1,8}?)\'', blank, text)
 
 
-def closing(text, at):
+def closing(text: str, at: int) -> int:
     """Where the bracket at this place is closed."""
     pairs, depth = {"(": ")", "[": "]", "{": "}"}, 0
     for place in range(at, len(text)):
@@ -52,7 +53,7 @@ def closing(text, at):
     return len(text)
 
 
-def split(text):
+def split(text: str) -> list[str]:
     """The parts of a list of arguments: commas within brackets, also of types, don't part."""
     parts, depth = [""], 0
     for at, letter in enumerate(text):
@@ -67,7 +68,7 @@ def split(text):
 class Function:
     """A function of a text: its name, and how much of everything it has."""
 
-    def __init__(self, text, plain, found):
+    def __init__(self, text: str, plain: str, found: re.Match[str]) -> None:
         self.name = found.group(2)
         start = plain.index("(", found.end())
         if plain[found.end()] == "<":  # generics may have calls of their own, as `F: Fn(u32)`
@@ -80,7 +81,7 @@ class Function:
         self.line = text.count("\n", 0, found.start(2)) + 1
 
     @staticmethod
-    def body(plain, at):
+    def body(plain: str, at: int) -> str:
         """What stands between the braces behind a signature and its clauses; nothing of a declaration."""
         begun = at
         while at < len(plain) and plain[at] != ";":
@@ -93,7 +94,7 @@ class Function:
         return ""
 
     @staticmethod
-    def end_of_generics(plain, at):
+    def end_of_generics(plain: str, at: int) -> int:
         depth = 0
         for place in range(at, len(plain)):
             depth += (plain[place] == "<") - (plain[place] == ">" and plain[place - 1] not in "-=")
@@ -102,7 +103,7 @@ class Function:
         return at
 
     @staticmethod
-    def deepest(body):
+    def deepest(body: str) -> int:
         """How many levels of control stand in one another at most."""
         stack, most, begun = [], 0, 0
         for place, letter in enumerate(body):
@@ -119,19 +120,19 @@ class Function:
         return most
 
 
-def functions(text):
+def functions(text: str) -> Iterator[Function]:
     plain = blanked(text)
     for found in FN.finditer(plain):
         yield Function(text, plain, found)
 
 
-def sources(which="src/**/*.rt"):
+def sources(which: str = "src/**/*.rt") -> dict[str, str]:
     return {str(file.relative_to(TOP)): file.read_text(encoding="utf-8") for file in sorted(TOP.glob(f"crates/*/{which}"))}
 
 
-def homonyms(texts):
+def homonyms(texts: dict[str, str]) -> dict[tuple[str, str, str], int]:
     """The names that two crates or more give to a definition, or to a type, and how many."""
-    crates = {}
+    crates: dict[tuple[str, str, str], set[str]] = {}
     for file, text in texts.items():
         kind = "type" if file.endswith(".rt") else "definition"
         for name in NAMED[kind].findall(text):
@@ -139,7 +140,7 @@ def homonyms(texts):
     return {key: len(those) for key, those in crates.items() if len(those) > MOST["crates"]}
 
 
-def over(texts):
+def over(texts: dict[str, str]) -> dict[tuple[str, str, str], int]:
     """What is more than it may be: for each place and measure its number."""
     found = homonyms(texts)
     for name, text in texts.items():
@@ -157,7 +158,7 @@ def over(texts):
     return found
 
 
-def listed():
+def listed() -> dict[tuple[str, str, str], int]:
     """The exceptions of the list."""
     found = {}
     for line in LIST.read_text().split("\n") if LIST.is_file() else []:
@@ -167,11 +168,11 @@ def listed():
     return found
 
 
-def written(exceptions):
+def written(exceptions: dict[tuple[str, str, str], int]) -> str:
     return HEAD + "".join(f"{number} {' '.join(key)}\n" for key, number in sorted(exceptions.items()))
 
 
-def faults(texts, exceptions):
+def faults(texts: dict[str, str], exceptions: dict[tuple[str, str, str], int]) -> Iterator[str]:
     now = over(texts)
     for key in sorted(now.keys() | exceptions.keys()):
         measure, file, name = key
@@ -183,7 +184,7 @@ def faults(texts, exceptions):
             yield f"tools/shape.txt: {allowed} {' '.join(key)}: {f'there are {number}' if number else 'it is no longer so'} (--renew)"
 
 
-def renew():
+def renew() -> None:
     now = over(sources() | sources("specs/**/*.antt"))
     LIST.write_text(written({key: min(number, now[key]) for key, number in listed().items() if key in now}))
 
@@ -219,10 +220,10 @@ fn generic<F: Fn(u32, u32) -> u32, const N: usize>(map: FinMap<u32, u32>, f: F) 
 '''
 
 
-def self_test():
+def self_test() -> int:
     wrong = 0
 
-    def same(what, got, wanted):
+    def same(what: str, got: object, wanted: object) -> None:
         nonlocal wrong
         wrong += got != wanted
         print(f"{'right' if got == wanted else 'WRONG'}: {what}: {got}{'' if got == wanted else f', not {wanted}'}")
@@ -249,19 +250,20 @@ def self_test():
     return wrong
 
 
-def largest(count):
+def largest(count: int) -> None:
     for measure in ("arguments", "lines", "levels"):
         all_of = [(getattr(it, measure), name, it.line, it.name) for name, text in sources().items() for it in functions(text)]
         for number, name, line, function in sorted(all_of, reverse=True)[:count]:
             print(f"{number} {measure} {name}:{line} {function}")
 
 
-def main():
-    if "--self-test" in sys.argv[1:]:
+def main() -> None:
+    given = asked(__doc__, "self-test", "renew", largest="COUNT")
+    if given.self_test:
         sys.exit(1 if self_test() else 0)
-    if "--largest" in sys.argv[1:]:
-        return largest(int(sys.argv[sys.argv.index("--largest") + 1]))
-    if "--renew" in sys.argv[1:]:
+    if given.largest:
+        return largest(int(given.largest))
+    if given.renew:
         return renew()
     texts, exceptions = sources(), listed()
     found = list(faults(texts | sources("specs/**/*.antt"), exceptions))

@@ -2,8 +2,9 @@
 """Says in dist/PROOF.json what was proved of the files in dist/: an in-toto statement, without a date, that the gate compares.
 
 usage: statement.py                 writes it, of what build.py has proved (dist/update.sh calls this)
-       statement.py --of LOG..      writes it, of what runs of `rt ci` have proved, whose outputs these are, the last one last
-       statement.py --check LOG     whether it says what LOG, the output of `rt ci`, says; of a crate that this run kept from an earlier
+       statement.py --of LOG..      writes it, of what runs of `rt ci` have proved and `tools/wrong.py --promises` has tried, whose outputs
+                                    these are, the last one last
+       statement.py --check LOG..   whether it says what these outputs say; of a crate that the last run of `rt ci` kept from an earlier
                                     one on the same machine it compares the sums of the sources alone, and says how many these are
 """
 
@@ -23,6 +24,8 @@ from build import FOR_C  # noqa: E402
 MADE = f"{TOP}/dist/PROOF.json"
 # What of a verdict is said of a crate, by the words that stand there. Axioms are C functions whose contracts are taken as written.
 TOLD = {"functions": int, "axioms": int, "may-wait": int, "may-abort": int}
+# A wrong body that was refused, as `rt ci` and as tools/wrong.py says it.
+REFUSED = re.compile(r"^(?:rt: )?must-fail (\w+/\S+)\.edit: refused, as it must be|^(\w+/\S+): refused: ", re.M)
 
 
 def text_of(path):
@@ -34,8 +37,11 @@ def sums(path):
     return [line.split("  ", 1) for line in text_of(path).splitlines()]
 
 
-def edits_of(crate):
-    return len(glob.glob(f"{TOP}/crates/{crate}/must-fail/*.edit"))
+def bodies():
+    """The wrong bodies that the gate tries: those of must-fail/, and those of wrong/ that name the promise which they break."""
+    found = glob.glob(f"{TOP}/crates/*/must-fail/*.edit")
+    found += [it for it in glob.glob(f"{TOP}/crates/*/wrong/*.edit") if re.search("^# promise: ", text_of(it), re.M)]
+    return {f"{it.split('/')[-3]}/{os.path.basename(it)[:-len('.edit')]}" for it in found}
 
 
 def verdict(text):
@@ -61,7 +67,6 @@ def statement(proof_of):
             crates.append({"name": name, "sources": {"sha256": digest}, **told})
     (logic,) = logics
     c_files = [{"name": name, "sources": {"sha256": digest}} for digest, name in sums(f"{TOP}/dist/SOURCES") if "/" in name]
-    every = re.findall(r"(?m)^(\w+)[^:\n]*:", text_of(f"{TOP}/crates.txt"))
     return {
         "_type": "https://in-toto.io/Statement/v1",
         "subject": [{"name": name, "digest": {"sha256": digest}} for digest, name in sums(f"{TOP}/dist/SHA256")],
@@ -71,7 +76,7 @@ def statement(proof_of):
             "sources": {"sha256": hashlib.sha256(text_of(f"{TOP}/dist/SOURCES").encode()).hexdigest()},
             "prover": {"name": "rattle", "logic": logic},
             "functions": sum(it["functions"] for it in crates),
-            "editsRefused": sum(map(edits_of, every)),
+            "editsRefused": len(bodies()),
             "promise": "README.md: What it promises",
             "trusted": "docs/PROOFS.md: What is only tested, What is neither, What is trusted",
             "crates": crates,
@@ -95,14 +100,18 @@ def as_stated():
     return {it["name"]: {"sum": made["prover"]["logic"], **{word: str(it[word]) for word in TOLD if word in it}} for it in made["crates"]}
 
 
+def runs_of_rt(paths):
+    return [it for it in map(text_of, paths) if re.search(r"^\d+ passed, \d+ failed$", it, re.M)]
+
+
 def gate(paths, known):
-    """What outputs of `rt ci` tell of a crate's proof; `known` are the verdicts on crates that the last one kept. Ends where not every edit was
-    refused in the last one, or something failed."""
-    logs = [text_of(it) for it in paths]
-    refused = len(re.findall(r"^(?:rt: )?must-fail \S+: refused, as it must be", logs[-1], re.M))
-    every = sum(map(edits_of, re.findall(r"(?m)^(\w+)[^:\n]*:", text_of(f"{TOP}/crates.txt"))))
-    if refused != every or not re.search(r"^[1-9]\d* passed, 0 failed$", logs[-1], re.M):
-        sys.exit(f"{paths[-1]}: {refused} of {every} edits refused, and no last line that says that nothing failed")
+    """What the outputs tell of a crate's proof; `known` are the verdicts on crates that the last run of `rt ci` kept. Ends where not every wrong
+    body was refused that the gate tries, or something failed in that run."""
+    logs, runs = [text_of(it) for it in paths], runs_of_rt(paths)
+    refused = {one or other for log in logs if log in runs[-1:] or log not in runs for one, other in REFUSED.findall(log)}
+    lost = sorted(bodies() - refused)
+    if lost or not runs or not re.search(r"^[1-9]\d* passed, 0 failed$", runs[-1], re.M):
+        sys.exit(f"{', '.join(paths)}: {len(lost)} wrong bodies not refused {lost[:3]}, or no last line that says that nothing failed")
     found = {name: verdict(part) for log in logs for name, part in parts_of(log).items()}
     return lambda crate: built(crate) if crate in FOR_C else found[crate] if crate in found else known[crate]
 
@@ -117,9 +126,9 @@ def text(proof_of):
     return json.dumps(statement(proof_of), indent=1) + "\n"
 
 
-def check(path):
-    kept = kept_in(text_of(path))
-    made = text(gate([path], {name: words for name, words in as_stated().items() if name in kept}))
+def check(paths):
+    kept = kept_in("".join(runs_of_rt(paths)[-1:]))
+    made = text(gate(paths, {name: words for name, words in as_stated().items() if name in kept}))
     if text_of(MADE) != made:
         sys.stdout.write(subprocess.run(["diff", MADE, "-"], input=made, text=True, stdout=subprocess.PIPE, check=False).stdout)
         return "dist/PROOF.json does not say what this run has proved"
@@ -129,7 +138,7 @@ def check(path):
 
 def main(words):
     if words[:1] == ["--check"]:
-        return check(words[1])
+        return check(words[1:])
     return write(text(gate(words[1:], {}) if words[:1] == ["--of"] else built))
 
 

@@ -9,9 +9,15 @@
 A sum is of the words, without comments and layout. A name that is imported stands with the path that it comes from, so that another
 import under the same name is another sum.
 """
+from __future__ import annotations
+
 import hashlib
 import re
 from pathlib import Path
+from typing import TYPE_CHECKING, Iterable, Iterator, Sequence
+
+if TYPE_CHECKING:
+    from audit import Node, Scope
 
 FILE = Path(__file__).resolve().parent.parent / 'docs' / 'AUDIT.sums'
 WORD = r"[^\W\d][\w'-]*(?:\.[^\W\d][\w'-]*)*|\d\w*|\S"
@@ -23,30 +29,30 @@ HEAD = """# The sums of what is believed, which tools/audit.py and tools/citatio
 """
 
 
-def short(words):
+def short(words: Iterable[str]) -> str:
     return hashlib.sha256(' '.join(words).encode()).hexdigest()[:12]
 
 
-def uncommented(text, suffix):
+def uncommented(text: str, suffix: str) -> str:
     comment = '--' if suffix == '.antt' else '//'
     return re.sub(rf"({STRING})|{comment}[^\n]*", lambda found: found.group(1) or ' ', text)
 
 
-def sum_of(scope, text, suffix):
+def sum_of(scope: Scope, text: str, suffix: str) -> str:
     """The sum of a text whose names mean what they mean in this scope."""
     words = re.findall(rf"{STRING}|{WORD}", uncommented(text, suffix))
     there, told = set(words), []
     for word in words:
-        first = word.partition('.')[0]
-        path = scope.aliases.get(first) or '.'.join(scope.names.get(first, ()))
+        head = word.partition('.')[0]
+        path = scope.aliases.get(head) or '.'.join(scope.names.get(head, ()))
         told += [word, path] if path else [word]
-    for name, path in sorted(scope.names.items()):  # as ∥◌∥₁, which is no word by itself
+    for name, parts in sorted(scope.names.items()):  # as ∥◌∥₁, which is no word by itself
         if '◌' in name and there.issuperset(re.findall(WORD, name.replace('◌', ' '))):
-            told.append('.'.join(path))
+            told.append('.'.join(parts))
     return short(told)
 
 
-def end_of_braces(text, at):
+def end_of_braces(text: str, at: int) -> int:
     depth = 1
     while depth:
         depth += {'{': 1, '}': -1}.get(text[at], 0)
@@ -54,7 +60,7 @@ def end_of_braces(text, at):
     return at
 
 
-def clauses_of(call):
+def clauses_of(call: Node) -> list[tuple[str, str, str]]:
     """The clauses of a call, and its signature: how each is called, and its text."""
     text, found, rest, at = uncommented(call.written, '.rt'), [], '', 0
     for clause in CLAUSE.finditer(text):
@@ -65,11 +71,11 @@ def clauses_of(call):
     return found + [('signature', '', re.sub(r"\s*(\{\s*\}?|;)\s*$", '', rest + text[at:]))]
 
 
-def sums(nodes):
+def sums(nodes: Iterable[Node]) -> dict[str, str]:
     """The lines of these definitions and calls: what each is of, and its sum."""
     found = {}
 
-    def add(key, told):
+    def add(key: str, told: str) -> None:
         while key in found:
             key += '+'
         found[key] = told
@@ -84,7 +90,7 @@ def sums(nodes):
     return found
 
 
-def kept():
+def kept() -> dict[str, str]:
     """The lines of the file: what each is of, and its sums."""
     found = {}
     for line in FILE.read_text().split('\n') if FILE.is_file() else []:
@@ -95,7 +101,7 @@ def kept():
     return found
 
 
-def differences(told, kinds):
+def differences(told: dict[str, str], kinds: Sequence[str]) -> Iterator[str]:
     """What the file says otherwise than these lines, of these kinds."""
     old = {key: value for key, value in kept().items() if key.split(' ')[0] in kinds}
     for key in sorted(old.keys() | told.keys()):
@@ -107,7 +113,7 @@ def differences(told, kinds):
             yield f"{key} is another than was read"
 
 
-def renew(told, kinds):
+def renew(told: dict[str, str], kinds: Sequence[str]) -> None:
     """Writes these lines in place of the file's of these kinds."""
     lines = {key: value for key, value in kept().items() if key.split(' ')[0] not in kinds} | told
     FILE.write_text(HEAD + ''.join(f"{key} {lines[key]}\n" for key in sorted(lines)))

@@ -31,6 +31,7 @@ files() {
 644 dist/libwasmloop.a $libdir/libwasmloop.a
 644 dist/libwasmloop.so.0 $libdir/libwasmloop.so.0
 644 $room/wasmloop.pc $libdir/pkgconfig/wasmloop.pc
+644 $room/wasmloop-static.pc $libdir/pkgconfig/wasmloop-static.pc
 644 $room/wasmloop-config.cmake $libdir/cmake/wasmloop/wasmloop-config.cmake
 644 $room/wasmloop-config-version.cmake $libdir/cmake/wasmloop/wasmloop-config-version.cmake
 644 examples/uv.h $share/wasmloop/guest/uv.h
@@ -75,7 +76,7 @@ case $libdir in
 "$prefix"/*) up=$(echo "${libdir#"$prefix"/}/cmake/wasmloop" | sed 's|[^/][^/]*|..|g') up="\${CMAKE_CURRENT_LIST_DIR}/$up" ;;
 *) up=$prefix ;;
 esac
-for file in wasmloop.pc wasmloop-config.cmake wasmloop-config-version.cmake; do
+for file in wasmloop.pc wasmloop-static.pc wasmloop-config.cmake wasmloop-config-version.cmake; do
     sed "s|@prefix@|$prefix|; s|@libdir@|$libdir|; s|@up@|$up|; s|@version@|$version|" "$top/capi/$file.in" > "$room/$file"
 done
 cd "$top"

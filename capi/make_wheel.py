@@ -1,4 +1,5 @@
-"""Makes the wheel of Python's wasmloop: the package capi/python/wasmloop and dist/libwasmloop.so.0, with the same bytes wherever it is made.
+"""Makes the wheel of Python's wasmloop: the package capi/python/wasmloop, dist/libwasmloop.so.0, and the program with the command `wasmloop` over it
+and the tools, with the same bytes wherever it is made.
 
 It is what pip calls for `pip install ./capi` (PEP 517), and a program: make_wheel.py FOLDER
 """
@@ -14,6 +15,8 @@ CAPI = os.path.dirname(os.path.realpath(__file__))
 TOP = os.path.dirname(CAPI)
 KIT = "guest.h guest.c wasi.c nofiles.c setjmp.h setjmp.c soft.c".split()
 # The library takes malloc, realloc, free and three functions on bytes of glibc, the youngest since 2.14; no older one has a tag than 2.17.
+# (the program asks for glibc 2.34)
+PROGRAM = "wasmloop/program"
 TAG = "py3-none-manylinux_2_17_x86_64.manylinux2014_x86_64"
 
 
@@ -45,6 +48,8 @@ def build_wheel(folder, config_settings=None, metadata_directory=None):
         **{path: read(file) for path, file in package()},
         "wasmloop/py.typed": b"",
         "wasmloop/libwasmloop.so.0": read(f"{TOP}/dist/libwasmloop.so.0"),
+        PROGRAM: read(f"{TOP}/dist/wasmloop"),
+        f"{info}/entry_points.txt": b"[console_scripts]\nwasmloop = wasmloop.__main__:main\n",
         f"{info}/PROOF.json": read(f"{TOP}/dist/PROOF.json"),
         f"{info}/METADATA": (
             f"Metadata-Version: 2.1\nName: wasmloop\nVersion: {version()}\n"
@@ -59,7 +64,7 @@ def build_wheel(folder, config_settings=None, metadata_directory=None):
     with zipfile.ZipFile(f"{folder}/{made}", "w", zipfile.ZIP_DEFLATED) as wheel:
         for path, text in files.items():
             entry = zipfile.ZipInfo(path, (1980, 1, 1, 0, 0, 0))
-            entry.external_attr, entry.compress_type = 0o100644 << 16, zipfile.ZIP_DEFLATED
+            entry.external_attr, entry.compress_type = (0o100755 if path == PROGRAM else 0o100644) << 16, zipfile.ZIP_DEFLATED
             wheel.writestr(entry, text)
     return made
 

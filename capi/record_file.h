@@ -21,6 +21,7 @@ typedef struct record {
     size_t length;          /* of what is in the buffer */
     uint64_t ran;           /* callbacks that ended in a turn that is to be written */
     uint32_t number, steps; /* of the loop, as the host numbers it; steps in a row that are to be written */
+    uint32_t counted;       /* the callbacks of the iteration, as its turns count them */
     bool full, failed, paused; /* paused: a turn has begun the callback that is paused */
     char path[PATH], buffer[BUFFER];
 } record;

@@ -185,11 +185,19 @@ static void note_turn(record *r, uint64_t most, const wasmloop_did *did)
     note_failure(r, did);
 }
 
+/* How many callbacks of the iteration its loop counts on from, after a turn that is over. */
+static uint32_t counted(const wasmloop_turned *told)
+{
+    return told->did.what == WASMLOOP_ENTERED && told->did.phase == WASMLOOP_TIMERS ? 0 : told->callbacks;
+}
+
 int __wrap_wasmloop_turn(handle *loop, uint32_t most, wasmloop_turned *told)
 {
     int status = __real_wasmloop_turn(loop, most, told);
     record *r = status == WASMLOOP_OK ? of(loop) : NULL;
-    if (r) note_turn(r, most, &told->did);
+    if (!r) return status;
+    r->counted = counted(told);
+    note_turn(r, most, &told->did);
     return status;
 }
 
@@ -221,16 +229,16 @@ static void note_pause(record *r, handle *loop, const wasmloop_did *did)
 
 int __wrap_wasmloop_turn_for(handle *loop, uint32_t most, uint64_t units, uint32_t *over, wasmloop_turned *told)
 {
-    bool is_new = told && told->did.what == WASMLOOP_ENTERED && told->did.phase == WASMLOOP_TIMERS;
-    uint32_t before = told && !is_new ? told->callbacks : 0;
     int status = __real_wasmloop_turn_for(loop, most, units, over, told);
     record *r = status == WASMLOOP_OK ? of(loop) : NULL;
     if (!r) return status;
+    uint32_t ran = told->callbacks - r->counted;
+    r->counted = *over ? counted(told) : told->callbacks;
     if (*over) {
         note_turn(r, r->ran + most, &told->did);
         return status;
     }
-    r->ran += told->callbacks - before;
+    r->ran += ran;
     note_pause(r, loop, &told->did);
     return status;
 }

@@ -7,6 +7,8 @@
 #include "wasmloop.h"
 
 uint32_t wasmloop_rt_load(const uint8_t *, size_t, wasmloop_handle *, wasmloop_fault *);
+uint32_t wasmloop_rt_load_told(const uint8_t *, size_t, wasmloop_handle *, wasmloop_fault *, char *, size_t, uint64_t *);
+uint32_t wasmloop_rt_kind(wasmloop_handle *, uint32_t *);
 uint32_t wasmloop_rt_loop(wasmloop_handle *, const wasmloop_limits *, wasmloop_handle *);
 uint32_t wasmloop_rt_drop(wasmloop_handle *);
 uint32_t wasmloop_rt_step(wasmloop_handle *, wasmloop_did *);
@@ -32,6 +34,7 @@ uint32_t wasmloop_rt_explain(const uint8_t *, size_t, char *, size_t, uint64_t *
 uint32_t wasmloop_rt_stop(wasmloop_handle *, wasmloop_site *, size_t, uint64_t *);
 uint32_t wasmloop_rt_stop_places(wasmloop_handle *, wasmloop_place *, size_t, uint64_t *);
 uint32_t wasmloop_rt_stop_told(const uint8_t *, size_t, wasmloop_handle *, char *, size_t, uint64_t *);
+uint32_t wasmloop_rt_stop_text(wasmloop_handle *, char *, size_t, uint64_t *);
 uint32_t wasmloop_rt_warning(wasmloop_handle *, uint32_t, char *, size_t, uint64_t *);
 uint32_t wasmloop_rt_job_new(wasmloop_handle *, const wasmloop_task *, const uint8_t *, size_t, wasmloop_handle *);
 uint32_t wasmloop_rt_job_start(wasmloop_handle *, wasmloop_handle *);
@@ -71,6 +74,19 @@ int wasmloop_load(const uint8_t *bytes, size_t length, wasmloop_handle *module, 
     if (!module || !fault || (!bytes && length)) return WASMLOOP_NULL;
     if (length > PTRDIFF_MAX) return WASMLOOP_RANGE;
     return (int)wasmloop_rt_load(length ? bytes : (const uint8_t *)&nothing, looked_at(length), module, fault);
+}
+
+int wasmloop_load_told(const uint8_t *bytes, size_t length, wasmloop_handle *module, wasmloop_fault *fault, char *into, size_t room, uint64_t *count) {
+    if (!module || !fault || !count || (!bytes && length) || (!into && room)) return WASMLOOP_NULL;
+    if (length > PTRDIFF_MAX || room > PTRDIFF_MAX) return WASMLOOP_RANGE;
+    return (int)wasmloop_rt_load_told(length ? bytes : (const uint8_t *)&nothing, looked_at(length), module, fault, room ? into : (char *)&nothing, room,
+        count);
+}
+
+int wasmloop_kind(const wasmloop_handle *handle, uint32_t *kind) {
+    if (!handle || !kind) return WASMLOOP_NULL;
+    wasmloop_handle shared = *handle;
+    return (int)wasmloop_rt_kind(&shared, kind);
 }
 
 int wasmloop_loop(const wasmloop_handle *module, const wasmloop_limits *limits, wasmloop_handle *loop) {
@@ -184,6 +200,7 @@ int wasmloop_stop_places(wasmloop_handle *handle, wasmloop_place *into, size_t r
 int wasmloop_stop_told(const uint8_t *bytes, size_t length, wasmloop_handle *handle, char *into, size_t room, uint64_t *count) {
     if (!handle || !count || (!bytes && length) || (!into && room)) return WASMLOOP_NULL;
     if (length > PTRDIFF_MAX || room > PTRDIFF_MAX) return WASMLOOP_RANGE;
+    if (!bytes) return (int)wasmloop_rt_stop_text(handle, room ? into : (char *)&nothing, room, count);
     return (int)wasmloop_rt_stop_told(length ? bytes : (const uint8_t *)&nothing, length, handle, room ? into : (char *)&nothing, room, count);
 }
 

@@ -2,8 +2,12 @@
 # shellcheck shell=bash disable=SC2034,SC2154
 top=$(cd "$(dirname "${BASH_SOURCE[0]}")/.." && pwd)
 guest=$top/hosts/guest/rules.wasm
+# the folder of the library: dist/, or what WASMLOOP_FOLDER names; the builds look there too
+library=${WASMLOOP_FOLDER:-$top/dist}
 room=$(mktemp -d "${TMPDIR:-/tmp}/wasmloop-$name.XXXXXX")
 passed=0 failed=0
+# the processor that a bench has its server and its clients on
+last=$(($(nproc) - 1))
 # Debian's own programs come first
 case :$PATH: in *:/usr/bin:*) PATH=/usr/bin:$PATH; export PATH ;; esac
 

@@ -29,6 +29,9 @@ FUNCTIONS = (
     ("f", "bigint", "bigint", ("f", "score", "heavy", "running", "grow", "copies", "deep"), "x"),
     ("t", "text", "text", ("t", "slug"), "repeat(chr(65), x)"),
     ("d", "int, int", "int", ("divide",), "x - 5, x - 3"),
+    ("s", "bigint", "SETOF bigint", ("series",), "x * 1000"),
+    ("w", "text", "SETOF text", ("words",), "repeat('ab - ', x)"),
+    ("n", "bigint, bigint", "bigint", ("total_of nulls",), "NULL, x"),
 )
 
 
@@ -49,11 +52,12 @@ def make(folder, count, seed=1):
 
 
 def statements(k, data):
+    yield "SET statement_timeout = 500;"                # a set may be endless
     yield f"INSERT INTO wasmloop.module VALUES ('m{k}', decode('{data.hex()}', 'hex'));"
     for name, takes, gives, exports, given in FUNCTIONS:
         for export in exports:
             yield f"CREATE FUNCTION {name}{k}({takes}) RETURNS {gives} LANGUAGE wasmloop AS 'm{k}.{export}';"
-            yield f"SELECT count({name}{k}({given})) FROM (SELECT generate_series(1, 10) AS x) y;"
+            yield f"SELECT count(v) FROM (SELECT generate_series(1, 10) AS x) y, {name}{k}({given}) AS v;"
             yield f"DROP FUNCTION {name}{k};"
     yield f"DELETE FROM wasmloop.module WHERE name = 'm{k}';"
 

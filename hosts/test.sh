@@ -1,12 +1,13 @@
 #!/bin/bash
 # Tests the hosts of this folder whose packages are there, with the real servers, on free ports and sockets; says which were left out, and for want of what.
 #
-# usage: hosts/test.sh [NAME..]        NAME: sqlite postgres nginx redis node go python; all by default. Ends with 1 if a test fails.
+# usage: hosts/test.sh [NAME..]        NAME: sqlite postgres nginx redis node go python tokio; all by default. Ends with 1 if a test fails.
 #        hosts/test.sh random [COUNT]  so many changed modules (1,000) in postgres, nginx and redis, none of which may crash a server
+#        hosts/test.sh install         installs what is missing from Debian, as root
 set -u
 cd "$(dirname "$0")" || exit 1
 case :$PATH: in *:/usr/bin:*) PATH=/usr/bin:/usr/sbin:$PATH; export PATH ;; esac
-all=(sqlite postgres nginx redis node go python)
+all=(sqlite postgres nginx redis node go python tokio)
 left=() failed=()
 
 # what a host needs that isn't there; nothing if all is
@@ -19,6 +20,7 @@ lacks() {
     node) command -v node > /dev/null || echo nodejs; [ -f "${NODE_INCLUDE:-/usr/include/node}/node_api.h" ] || echo libnode-dev ;;
     go) command -v go > /dev/null || echo golang-go ;;
     python) ;;
+    tokio) command -v cargo > /dev/null || echo cargo; compgen -G '/usr/share/cargo/registry/tokio-1*' > /dev/null || echo librust-tokio-dev ;;
     *) echo "a host of that name" ;;
     esac
     command -v cc > /dev/null || echo gcc
@@ -33,6 +35,11 @@ run() {
     "./$name/test.sh" "$@" || failed+=("$name")
 }
 
+if [ "${1:-}" = install ]; then
+    mapfile -t missing < <(for name in "${all[@]}"; do lacks "$name"; done | sort -u)
+    [ ${#missing[@]} = 0 ] || DEBIAN_FRONTEND=noninteractive apt-get install -y --no-install-recommends "${missing[@]}"
+    exit
+fi
 if [ "${1:-}" = random ]; then
     room=$(mktemp -d)
     trap 'rm -rf "$room"' EXIT

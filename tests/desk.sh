@@ -12,6 +12,8 @@ WASMLOOP_LIBRARY=$top/dist/libwasmloop.so.0 PYTHONPATH=$top/capi/python PYTHONDO
 export WASMLOOP_LIBRARY PYTHONPATH PYTHONDONTWRITEBYTECODE
 command -v python3 > /dev/null || { echo 'skipped: the tools in Python: python3 is missing'; exit 0; }
 python3 "$top/capi/test/desk_test.py" "$program" "$out"
+if command -v clang > /dev/null && command -v wasm-ld > /dev/null; then python3 "$top/capi/test/hostile_test.py" "$out/hostile"
+else echo 'skipped: hostile guests: clang is missing'; fi
 
 # an unmodified host in C: the replay of each loop's record emits what the host printed
 if [ ! -f /usr/include/uv.h ] || ! command -v cc > /dev/null; then echo 'skipped: the recorder for C: cc or libuv1-dev is missing'; exit 0; fi

@@ -162,7 +162,7 @@ if has cc; then
         fi
         number=$((number + 1))
     done
-    [ $hosts = 4 ] || fail "docs/EMBEDDING.md has $hosts blocks of a host in C behind the first, not 4"
+    [ $hosts = 5 ] || fail "docs/EMBEDDING.md has $hosts blocks of a host in C behind the first, not 5"
 fi
 if [ -d python ] && [ -f counter.wasm ]; then
     { printf 'from wasmloop import Module\nmodule = Module(open("counter.wasm", "rb").read())\n'; block docs/EMBEDDING.md python 2; } > snippet.py

@@ -19,8 +19,8 @@ SCENES = [("IDLE", 1), ("IDLE", 60), ("IDLE_CHECK", 1), ("TIMER", 1), ("TIMER", 
 CALLBACKS, REQUESTS = (1_000, 5_000), (500, 2_500)
 # Scenes whose callbacks call the host 1,000 times; those of PLAIN have as many turns without a call.
 CALLS, CALLING = ["NOW", "ACTIVE"], (5, 15)
-# Kinds of calls of instance.c.
-KEPT, KEPT_CALLS = ["nothing", "nothing_at", "add", "add_at", "instance"], (1_000, 3_000)
+# Kinds of calls of instance.c. `add_paused` pauses once; `add_for` and `work_for` are over in their first slice.
+KEPT, KEPT_CALLS = ["nothing", "nothing_at", "add", "add_at", "add_for", "add_paused", "add_begun", "instance", "work", "work_for"], (1_000, 3_000)
 VALGRIND = ["valgrind", "--tool=callgrind", "--callgrind-out-file=/dev/null"]
 WITHOUT_REP = {**os.environ, "GLIBC_TUNABLES": "glibc.cpu.x86_rep_stosb_threshold=100000000"}
 

@@ -30,6 +30,38 @@ static void nothing(void) { must(!wasmloop_call(&it, "nothing", NULL, 0, &limits
 static void nothing_at(void) { must(!wasmloop_call_at(&it, number_of_nothing, NULL, 0, &limits, &ended)); }
 static void add(void) { must(!wasmloop_call(&it, "add", args, 2, &limits, &ended) && ended.result[0] == 5); }
 static void add_at(void) { must(!wasmloop_call_at(&it, number_of_add, args, 2, &limits, &ended) && ended.result[0] == 5); }
+static void add_for(void) {
+    uint32_t over = 0;
+    must(!wasmloop_call_for(&it, number_of_add, args, 2, &limits, 1000, &over, &ended) && over && ended.result[0] == 5);
+}
+static void goes_on(void) {
+    uint32_t over = 0;
+    must(!wasmloop_call_run_for(&it, 1000, &over, &ended) && over && ended.result[0] == 5);
+}
+static void add_paused(void) {
+    uint32_t over = 1;
+    must(!wasmloop_call_for(&it, number_of_add, args, 2, &limits, 2, &over, &ended) && !over);
+    goes_on();
+}
+static void add_begun(void) {
+    must(!wasmloop_call_begin(&it, "add", args, 2, &limits));
+    goes_on();
+}
+static wasmloop_handle job_of(void) {
+    static const wasmloop_task task = { 1000000, 5, 64 };
+    wasmloop_handle job = WASMLOOP_HANDLE_INIT;
+    must(!wasmloop_job_new(&module, &task, text, sizeof text, &job));
+    return job;
+}
+static void work(void) {
+    wasmloop_handle job = job_of();
+    must(!wasmloop_job_run(&job) && !wasmloop_drop(&job));
+}
+static void work_for(void) {
+    wasmloop_handle job = job_of();
+    uint32_t over = 0;
+    must(!wasmloop_job_run_for(&job, 1000, &over) && over && !wasmloop_drop(&job));
+}
 static void absent(void) { must(wasmloop_call(&it, "absent", NULL, 0, &limits, &ended) == WASMLOOP_NONE); }
 static void writes(void) { must(!wasmloop_write(&it, 1024, text, 64)); }
 static void reads(void) { must(!wasmloop_read(&it, 1024, text, 64)); }
@@ -42,8 +74,9 @@ static void made(void) {
 static const struct kind {
     const char *name;
     void (*call)(void);
-} kinds[] = { { "nothing", nothing }, { "nothing_at", nothing_at }, { "add", add }, { "add_at", add_at }, { "absent", absent }, { "write", writes },
-    { "read", reads }, { "instance", made } };
+} kinds[] = { { "nothing", nothing }, { "nothing_at", nothing_at }, { "add", add }, { "add_at", add_at }, { "add_for", add_for },
+    { "add_paused", add_paused }, { "add_begun", add_begun }, { "absent", absent }, { "write", writes }, { "read", reads }, { "instance", made },
+    { "work", work }, { "work_for", work_for } };
 
 static double now(void) {
     struct timespec t;

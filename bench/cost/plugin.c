@@ -3,3 +3,4 @@
 
 EXPORT(nothing) void nothing(void) {}
 EXPORT(add) int add(int a, int b) { return a + b; }
+EXPORT(uv_work) int uv_work(int op) { return op; }

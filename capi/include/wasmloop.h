@@ -92,6 +92,10 @@ int wasmloop_load(const uint8_t *bytes, size_t length, wasmloop_handle *module, 
  * the whole sentence. NONE: they are not rejected. RANGE: `length` or `room` is above PTRDIFF_MAX. */
 int wasmloop_explain(const uint8_t *bytes, size_t length, char *into, size_t room, uint64_t *count);
 
+/* Loads a module as wasmloop_load does. REFUSED: it also writes the sentence of wasmloop_explain to `into`: at most `room` bytes, without a NUL, and
+ * its whole length to *count; the bytes are not validated again for it. RANGE: `length` or `room` is above PTRDIFF_MAX. */
+int wasmloop_load_told(const uint8_t *bytes, size_t length, wasmloop_handle *module, wasmloop_fault *fault, char *into, size_t room, uint64_t *count);
+
 /* Creates a second handle to the same module, for another thread. The module is reference-counted, not copied. */
 int wasmloop_share(const wasmloop_handle *module, wasmloop_handle *other);
 
@@ -116,6 +120,12 @@ int wasmloop_shape_of(const wasmloop_handle *module, wasmloop_shape *shape);
  *     function of a plug-in's                                    _ or uv_, and main, are not a plug-in's
  *     imports queue_work, and lacks uv_work or uv_after_work     each request fails with -38 */
 int wasmloop_warning(const wasmloop_handle *module, uint32_t number, char *into, size_t room, uint64_t *count);
+
+/* What a handle holds. A job, an instance or a loop that is paused between two slices has WASMLOOP_HOLDS_PAUSED added. */
+enum { WASMLOOP_HOLDS_NOTHING, WASMLOOP_HOLDS_MODULE, WASMLOOP_HOLDS_JOB, WASMLOOP_HOLDS_INSTANCE, WASMLOOP_HOLDS_LOOP, WASMLOOP_HOLDS_PAUSED = 16 };
+
+/* Writes what a handle holds to *kind. An instance is paused from the begin of a call to its end. */
+int wasmloop_kind(const wasmloop_handle *handle, uint32_t *kind);
 
 /* Releases the object of a handle of any kind. EMPTY: there was none. Afterwards you may free or reuse the struct. */
 int wasmloop_drop(wasmloop_handle *handle);
@@ -262,7 +272,7 @@ int wasmloop_call_for(wasmloop_handle *instance, uint64_t number, const uint64_t
     uint32_t *over, wasmloop_ended *ended);
 
 /* Ends the call that wasmloop_call_begin or wasmloop_call_for began, before it is over, and keeps the instance: *ended is SPENT, with the fuel that the call has
- * used. The memory and the globals are those of wasmloop_call with just so much fuel, wasmloop_stop reports where the call stood, or NONE if
+ * used. The memory and the globals are those of wasmloop_call with exactly that much fuel, wasmloop_stop reports where the call stood, or NONE if
  * nothing of it has run, and you may call the instance again. KIND: no call is in progress; then *ended is not written. */
 int wasmloop_call_end(wasmloop_handle *instance, wasmloop_ended *ended);
 
@@ -340,12 +350,12 @@ int wasmloop_step_for(wasmloop_handle *loop, uint64_t units, uint32_t *over, was
 
 #define WASMLOOP_FOREVER UINT64_MAX
 
-/* The progress of a loop iteration. Zero it before the first call of wasmloop_turn, then let only wasmloop_turn and wasmloop_turn_for write it. */
+/* The progress of a loop iteration. The loop keeps it; the struct only receives it, and what was in it before does not count. */
 typedef struct wasmloop_turned {
     wasmloop_did did;   /* the last step taken */
     uint64_t wait;      /* for how many milliseconds the loop needs only replies and sends, or WASMLOOP_FOREVER: always if it has failed */
-    uint32_t callbacks; /* the number of callbacks run in this iteration so far, at most 2^32 - 1 */
-    uint32_t zero;
+    uint32_t callbacks; /* the number of callbacks that turns have run in this iteration so far, at most 2^32 - 1 */
+    uint32_t zero;      /* 0 */
 } wasmloop_turned;
 
 /* Takes steps until one of these holds; told->did is the last step:
@@ -361,7 +371,7 @@ int wasmloop_turn(wasmloop_handle *loop, uint32_t most_callbacks, wasmloop_turne
  * the time of the call. Sets *over to 1 if the turn is over, by one of wasmloop_turn's conditions, of which `most_callbacks` counts the callbacks
  * that end in this call. Sets *over to 0 if it is not: call it again, without sleeping. Then a callback is paused, as in wasmloop_step_for; or
  * none is, and each call on the loop works, if the last unit ended a callback or an allocation failed after the first step. told->did is the last
- * step that is over, and told->callbacks counts those. The steps, from call to call, are those of wasmloop_step. A slice of a callback may use fewer
+ * step that is over, unchanged if no step ended in this call, and told->callbacks counts those. The steps, from call to call, are those of wasmloop_step. A slice of a callback may use fewer
  * units, as in wasmloop_step_for. RANGE: `most_callbacks` or `units` is 0. MEMORY: the first step could not begin. */
 int wasmloop_turn_for(wasmloop_handle *loop, uint32_t most_callbacks, uint64_t units, uint32_t *over, wasmloop_turned *told);
 
@@ -445,8 +455,8 @@ int wasmloop_stop_places(wasmloop_handle *handle, wasmloop_place *into, size_t r
 
 /* Writes the same backtrace as text ("in function 5 (divide), .. at byte 231; called by function 2 (main) at byte 180") to
  * `into`: at most `room` bytes, without a NUL. *count is the length of the whole text. The reason is in did, about or ended. `bytes` are
- * those that the module was loaded from. Function indexes include the imports. REFUSED: there is a backtrace, but the bytes are another
- * module's. NONE: as for wasmloop_stop. RANGE: `length` or `room` is above PTRDIFF_MAX. */
+ * those that the module was loaded from, or NULL with a `length` of 0: then those that it keeps are read. Function indexes include the imports.
+ * REFUSED: there is a backtrace, but the bytes are another module's. NONE: as for wasmloop_stop. RANGE: `length` or `room` is above PTRDIFF_MAX. */
 int wasmloop_stop_told(const uint8_t *bytes, size_t length, wasmloop_handle *handle, char *into, size_t room, uint64_t *count);
 
 /* ---- Statuses, names, version ---- */
@@ -475,6 +485,16 @@ const char *wasmloop_trap_name(uint32_t trap);
 const char *wasmloop_fault_name(uint32_t stage, uint32_t code);
 const char *wasmloop_ending_name(uint32_t ending);
 const char *wasmloop_outcome_name(uint32_t outcome);
+
+/* A status as a sentence, such as "an allocation failed". NULL for a number without one. The text is never freed. */
+const char *wasmloop_status_text(int status);
+
+/* Write how a run ended, for the one who started it: "out of fuel, after 1,000,000 units", "division by zero, after 3 units", "returned, after 1 unit";
+ * of a job also "not over yet, after 7 units", "an allocation failed, after 0 units". wasmloop_ended_text takes the numbers of wasmloop_ended or of
+ * wasmloop_did, wasmloop_outcome_text those of wasmloop_about. At most `room` bytes go to `into`, without a NUL; *count is the length of the whole text.
+ * wasmloop_stop_told has the place. RANGE: a number has no name, or `room` is above PTRDIFF_MAX. */
+int wasmloop_ended_text(uint32_t ending, uint32_t trap, uint64_t used, char *into, size_t room, uint64_t *count);
+int wasmloop_outcome_text(uint32_t outcome, uint32_t value, uint64_t used, char *into, size_t room, uint64_t *count);
 
 /* The version of the library, as "0.2.0". The text is never freed. */
 const char *wasmloop_version(void);

@@ -608,6 +608,8 @@ static void orders(void) {
     IS(wasmloop_call_begin(&none, "uv_work", NULL, 0, &no_calls), WASMLOOP_RANGE);
     IS(wasmloop_call_run_for(&none, 0, &count, &ended), WASMLOOP_RANGE);
     IS(wasmloop_call_run_for(&none, 0, NULL, &ended), WASMLOOP_NULL);
+    IS(wasmloop_call_for(&none, 0, NULL, 0, &no_calls, 1, &count, &ended), WASMLOOP_RANGE);
+    IS(wasmloop_call_for(&none, 0, NULL, 1, &no_calls, 0, &count, &ended), WASMLOOP_NULL);
     IS(wasmloop_step_for(&none, 0, &count, &did), WASMLOOP_RANGE);
     IS(wasmloop_step_for(&none, 0, NULL, &did), WASMLOOP_NULL);
     IS(wasmloop_turn_for(&none, 1, 0, &count, &turned), WASMLOOP_RANGE);
@@ -618,6 +620,58 @@ static void orders(void) {
     IS(memcmp(&copy, &module, sizeof copy) == 0 && into.mark == 0 && none.mark == 0, 1);
     IS(wasmloop_drop(&module), WASMLOOP_OK);
     IS(wasmloop_drop(&loop), WASMLOOP_OK);
+}
+
+/* a first slice, the end of a call and exports, where there is no such thing: nothing is written */
+static void no_calls(void) {
+    static const wasmloop_call_limits limits = { 1000000, 64, 0 }, flat = { 1000000, 0, 0 };
+    wasmloop_handle module = module_of("crc32.wasm"), none = WASMLOOP_HANDLE_INIT, it = WASMLOOP_HANDLE_INIT, loop = loop_of("digest.wasm");
+    wasmloop_ended ended, blank;
+    wasmloop_listed listed = { 7, 7, 7 };
+    wasmloop_type type;
+    uint64_t args[9] = { 0 }, number = 7, memory = 7;
+    uint32_t over = 7;
+    char name[8] = "xxxxxxx";
+    IS(wasmloop_instance(&module, &limits, &it, &ended), WASMLOOP_OK);
+    IS(wasmloop_export_number(&module, "uv_work", &number), WASMLOOP_OK);
+    for (uint64_t k = 0; wasmloop_export_at(&module, k, NULL, 0, &listed, &type) == WASMLOOP_OK; k++)
+        if (listed.kind == 2) memory = k;
+    IS(memory != 7, 1);
+    memset(&ended, 0xab, sizeof ended);
+    blank = ended;
+    wasmloop_handle *const others[] = { &none, &module, &loop };
+    for (int k = 0; k < 3; k++) {
+        int want = k ? WASMLOOP_KIND : WASMLOOP_EMPTY;
+        IS(wasmloop_call_for(others[k], number, args, 1, &limits, 1, &over, &ended), want);
+        IS(wasmloop_call_end(others[k], &ended), want);
+    }
+    IS(wasmloop_export_at(&none, 0, name, 1, &listed, &type), WASMLOOP_EMPTY);
+    IS(wasmloop_export_at(&it, 0, name, 1, &listed, &type), WASMLOOP_KIND);
+    IS(wasmloop_export_at(&module, UINT64_MAX, name, 1, &listed, &type), WASMLOOP_NONE);
+    IS(name[0], 'x');
+    IS(wasmloop_call_end(&it, &ended), WASMLOOP_KIND);
+    const struct { uint64_t number; size_t count; uint64_t first; int want; } wrong[] = {
+        { UINT64_MAX, 1, 0, WASMLOOP_NONE }, { memory, 1, 0, WASMLOOP_NONE }, { number, 0, 0, WASMLOOP_ARGUMENTS }, { number, 9, 0, WASMLOOP_ARGUMENTS },
+        { number, 1, UINT64_C(1) << 32, WASMLOOP_ARGUMENTS },
+    };
+    for (size_t k = 0; k < sizeof wrong / sizeof *wrong; k++) {
+        args[0] = wrong[k].first;
+        IS(wasmloop_call_for(&it, wrong[k].number, args, wrong[k].count, &limits, 1, &over, &ended), wrong[k].want);
+    }
+    args[0] = 0;
+    IS(wasmloop_call_for(&it, number, args, 1, &limits, 0, &over, &ended), WASMLOOP_RANGE);
+    IS(wasmloop_call_for(&it, number, args, 1, &flat, 1, &over, &ended), WASMLOOP_RANGE);
+    IS(over == 7 && memcmp(&ended, &blank, sizeof ended) == 0, 1);
+    /* while a call is in progress */
+    IS(wasmloop_call_for(&it, number, args, 1, &limits, 1, &over, &ended), WASMLOOP_OK);
+    IS(over, 0);
+    IS(memcmp(&ended, &blank, sizeof ended), 0);
+    IS(wasmloop_call_for(&it, number, args, 1, &limits, 1, &over, &ended), WASMLOOP_KIND);
+    IS(wasmloop_call_end(&it, &ended), WASMLOOP_OK);
+    IS(ended.ending == WASMLOOP_SPENT && ended.used == 1 && ended.results == 0, 1);
+    IS(wasmloop_drop(&it), WASMLOOP_OK);
+    IS(wasmloop_drop(&loop), WASMLOOP_OK);
+    IS(wasmloop_drop(&module), WASMLOOP_OK);
 }
 
 /* where a failed loop stopped */
@@ -744,8 +798,10 @@ static void stops_told(void) {
     IS(wasmloop_stop_told(bytes, length, &module, text, 2, &count), WASMLOOP_KIND);
     /* another module's bytes */
     IS(wasmloop_stop_told(bytes, length - 1, &loop, text, 2, &count), WASMLOOP_REFUSED);
-    IS(wasmloop_stop_told(NULL, 0, &loop, text, 2, &count), WASMLOOP_REFUSED);
     IS(count == 7 && memcmp(text, "inx", 3) == 0, 1);
+    /* those that the module keeps */
+    IS(wasmloop_stop_told(NULL, 0, &loop, text, 2, &count), WASMLOOP_OK);
+    IS(count == room && memcmp(text, "inx", 3) == 0, 1);
     IS(wasmloop_drop(&loop), WASMLOOP_OK);
     /* a job: not run, stopped, and returned */
     IS(wasmloop_job_new(&module, &task, NULL, 0, &job), WASMLOOP_OK);
@@ -841,5 +897,6 @@ int main(int argc, char **argv) {
     requests();
     turns();
     orders();
+    no_calls();
     return all_hold();
 }

@@ -3,15 +3,19 @@
 usage: calls_test.py EXAMPLES PROGRAM [COUNT]
 """
 
+import copy
+import io
 import pickle
 import random
 import subprocess
 import sys
 import tempfile
+import time
 from concurrent.futures import ThreadPoolExecutor
 from pathlib import Path
 
 import wasmloop
+from wasmloop import _abi, bind
 
 EXAMPLES, PROGRAM = Path(sys.argv[1]), sys.argv[2]
 COUNT = int(sys.argv[3]) if len(sys.argv) > 3 else 300
@@ -33,7 +37,7 @@ def refused(make, status):
 
 def fault_line(fault):
     stage = ["", "decode", "validate", "link"][fault.stage]
-    return f"{stage} {fault.code} {wasmloop._lib.wasmloop_fault_name(fault.stage, fault.code).decode()}\n"
+    return f"{stage} {fault.code} {_abi._lib.wasmloop_fault_name(fault.stage, fault.code).decode()}\n"
 
 
 def by_library(data, op, word):
@@ -181,6 +185,9 @@ def wrong_words():
         (lambda: module.work(0, bytes(65_537)), "OutOfRange: length 65537 is out of range: expected 0 to 65536"),
         (lambda: wasmloop.Module("x"), "TypeError: expected the bytes of a module, got str: if it is a path, pass open('x', 'rb').read()"),
         (lambda: wasmloop.Module(b"x"), "Refused: byte 0: the bytes don't begin with 00 61 73 6d"),
+        (lambda: wasmloop.Module(b""), "Refused: byte 0: unexpected end of data"),
+        (lambda: wasmloop.Module(io.BytesIO()), "TypeError: expected bytes, got BytesIO: pass its read()"),
+        (lambda: copy.copy(module), "TypeError: cannot copy this module: it has one owner; a module's share() gives a second handle"),
         (lambda: wasmloop.Loop(3), "TypeError: expected a Module, got int"),
         (lambda: wasmloop.Loop(module, number=-1), "OutOfRange: number -1 is out of range: expected 0 to 4294967295"),
         (lambda: loop.accept(None), "TypeError: expected a Job, got NoneType"),
@@ -206,7 +213,7 @@ def wrong_words():
         (lambda: loop.memory.__setitem__(slice(0, 1), b"x"), "Error: the memory of a loop can only be read"),
         (lambda: module.instance().call("uv_work", 0, fuel=1), "Stopped: uv_work ran out of fuel, after 1 unit"),
         (lambda: job.reply_into(b"abc"), "TypeError: expected a writable buffer, got bytes"),
-        (lambda: plugin.call("nothing"), "Error: no function is exported as 'nothing'"),
+        (lambda: plugin.call("nothing"), "Error: no function is exported as 'nothing': the module exports uv_work"),
         (lambda: plugin.call("uv_work\0", 0), r"Error: no function is exported as 'uv_work\x00'"),
         (lambda: plugin.call(3), "TypeError: name: expected a str, got int"),
         (lambda: plugin.call("uv_work"), "TypeError: uv_work takes 1 argument, got 0"),
@@ -228,6 +235,65 @@ def wrong_words():
     return len(wanted)
 
 
+# spin() adds 1 to the global g for ever, count() returns it, and uv_work spins.
+SPINS = bytes.fromhex("0061736d01000000 010d 03 600000 6000017f 60017f017f 0304 03 000102 0606 01 7f0141000b"
+                      "071e 04 047370696e0000 05636f756e740001 0775765f776f726b0002 01670300"
+                      "0a1e 03 0e 00034023004101 6a24000c000b0b 04 0023000b 08 0003400c000b000b")
+
+
+def late(call, most):
+    """The error of a call that is late, within so many seconds."""
+    began = time.monotonic()
+    try:
+        call()
+    except wasmloop.Late as error:
+        told = pickle.loads(pickle.dumps(error))
+        same((str(told), told.used, told.where, told.ending), (str(error), error.used, error.where, "late"))
+        same(time.monotonic() - began < most, True)
+        return error
+    sys.exit("the call is not late")
+
+
+def deadlines():
+    """What takes longer than its deadline is late, and leaves what a call with just the fuel used leaves; its instance lives on."""
+    with wasmloop.Module(SPINS) as module, module.instance() as it, module.instance() as other:
+        same(module.exports, [("spin", "function", ([], [])), ("count", "function", ([], [32])), ("uv_work", "function", ([32], [32])), ("g", "global", None)])
+        same(list(bind.callable_in(module)), ["spin()", "count() -> i32", "uv_work(i32) -> i32"])
+        same(said(lambda: it.call("c\n")), r"Error: no function is exported as 'c\n': the module exports spin, count, uv_work")
+        for deadline in (0, 20, 0.5):
+            why = late(lambda: it.call("spin", fuel=2**62, deadline=deadline), 5)
+            same((why.used == it.used, why.used > 0, why.where, str(why)),
+                 (True, True, it.stop_told(), f"spin passed its deadline, after {why.used} units, {why.where}"))
+            same((why.where.startswith("in function 0"), why.text), (True, f"deadline passed, after {why.used:,} units"))
+            refused(lambda: other.call("spin", fuel=why.used), wasmloop.OK)
+            same((it.value("g"), it.stop(), it.call("count")), (other.value("g"), other.stop(), other.value("g")))
+        same((it.call("count", deadline=10_000), it.call("count", deadline=float("inf"))), (other.value("g"),) * 2)
+        reply = module.work(0, fuel=2**62, deadline=5)
+        same((reply[:3], reply.used > 0, reply.where[:13]), (("late", 0, b""), True, "in function 2"))
+        same(late(lambda: reply.value, 1).used, reply.used)
+        same((module.work(0, fuel=1000, deadline=10_000).outcome, wasmloop.work(SPINS, 0, fuel=2**62, deadline=0).outcome), ("spent", "late"))
+        same(said(lambda: it.call("count", deadline=-1)), "OutOfRange: deadline -1 is out of range: expected 0 or more")
+        same(said(lambda: it.call("count", deadline=float("nan"))), "OutOfRange: deadline nan is out of range: expected 0 or more")
+        same(said(lambda: module.work(0, deadline="5")), "TypeError: deadline: expected a number of milliseconds, got str")
+        same(said(lambda: it.call("spin", fuel=1, deadline=10_000)), "Stopped: spin ran out of fuel, after 1 unit")
+
+
+def texts():
+    """How runs ended, and what a status says."""
+    with wasmloop.Module(SPINS) as module, module.instance() as it, module.job(0, fuel=1_234_567) as job:
+        same((job.text(), job.run().text()), ("not over yet, after 0 units", "out of fuel, after 1,234,567 units"))
+        same((job.stop_told(), job.stop_told(SPINS)), (job.stop_told(SPINS), job.stop_told()))
+        refused(lambda: job.stop_told(b""), wasmloop.REFUSED)
+        try:
+            it.call("spin", fuel=1000)
+        except wasmloop.Stopped as why:
+            same((why.text, why.name), ("out of fuel, after 1,000 units", "OK"))
+        same([str(wasmloop.Error(it)) for it in (wasmloop.MEMORY, wasmloop.EMPTY)], ["an allocation failed", "the object is closed"])
+        same((wasmloop.Error(wasmloop.NO_WORK).name, wasmloop.Error(99).name), ("NO_WORK", None))
+
+
 calls()
+deadlines()
+texts()
 print(f"{wrong_words()} wrong words are refused, each with its sentence")
 print(f"{COUNT} random modules answer as the program: {compare(COUNT)}")

@@ -22,7 +22,8 @@ from pathlib import Path
 import desk_guests as guests
 import desk_pprof
 import wasmloop
-from wasmloop import _tool, callbacks, callgrind, counts, cover, freeze, lines, log, lower, plugin_record, pprof, profile, record, replay, runs, tree, wasm
+from wasmloop import (_errors, _tool, callbacks, callgrind, counts, cover, freeze, lines, log,
+                      lower, plugin_record, pprof, profile, record, replay, runs, tree, wasm)
 
 PROGRAM, OUT = os.path.abspath(sys.argv[1]), Path(sys.argv[2])
 EXAMPLES = Path(__file__).resolve().parent.parent.parent / "examples"
@@ -190,7 +191,7 @@ def drive(rng, data, path, asks):
 
         for _ in range(rng.randrange(20, 160)):
             it = rng.random()
-            if it < 0.15 or wasmloop._is_paused(loop.handle):
+            if it < 0.15 or _errors._is_paused(loop.handle):
                 did = sliced(rng, loop)
                 if did:
                     saw(did)
@@ -228,7 +229,7 @@ def sliced(rng, loop):
     if rng.random() < 0.5:
         return loop.step_for(units)
     turned = loop.turn_for(units, rng.choice([1, 3, 2**32 - 1]))
-    return turned.did if turned else None if wasmloop._is_paused(loop.handle) else loop.turned.did
+    return turned.did if turned else None if _errors._is_paused(loop.handle) else loop.turned.did
 
 
 def stranger(loop, other):
@@ -687,7 +688,8 @@ def words_part():
     for words, status, told in (
         *((f"{name} --help", 0, doc) for name, doc in (("cc", "Compiles and links"), ("lower", "Rewrites a module"), ("log", "Prints what a guest has logged"),
                                                        ("fuzz", "Fuzzes the uv_work"))),
-        (f"log {crc} 0", 0, ""), (f"lower {crc} {OUT}/l.wasm", 0, "lowered: "), (f"lower {OUT}/no.wasm {OUT}/l.wasm", 3, "cannot be rewritten"),
+        (f"log {crc} 0", 1, "exports no guest_log_ring"),
+        (f"lower {crc} {OUT}/l.wasm", 0, "lowered: "), (f"lower {OUT}/no.wasm {OUT}/l.wasm", 3, "cannot be rewritten"),
         ("cc lib.rs", 2, "cargo builds Rust"), (f"fuzz {tick}", 2, "exports no uv_work"), (f"profile {OUT}/t.record --callback 99", 2, "callbacks"),
         ("profile --help", 0, "Shows where the fuel"), ("lines --help", 0, "at byte N"), ("cover --help", 0, "Counts how often"),
         ("record --help", 0, "Records the calls"), ("replay --help", 0, "Runs a record again"), ("freeze --help", 0, "in the resulting state"),

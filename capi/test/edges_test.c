@@ -60,6 +60,7 @@ static void rooms(void) {
     wasmloop_task task = { 1, 0, 1 };
     wasmloop_fault fault;
     wasmloop_ended ended;
+    wasmloop_type type;
     static char words[1000];
     uint8_t byte = 0;
     char text;
@@ -73,6 +74,8 @@ static void rooms(void) {
         IS(wasmloop_stop_places(&none, &(wasmloop_place){ 0, 0, 0 }, PTRDIFF_MAX / 24 + is_over, &count), wanted);
         IS(wasmloop_call(&none, "f", &(uint64_t){ 0 }, PTRDIFF_MAX / 8 + is_over, &call_limits, &ended), wanted);
         IS(wasmloop_call_begin(&none, "f", &(uint64_t){ 0 }, PTRDIFF_MAX / 8 + is_over, &call_limits), wanted);
+        IS(wasmloop_call_for(&none, 0, &(uint64_t){ 0 }, PTRDIFF_MAX / 8 + is_over, &call_limits, 1, &(uint32_t){ 0 }, &ended), wanted);
+        IS(wasmloop_export_at(&none, 0, &text, most, &(wasmloop_listed){ 0, 0, 0 }, &type), wanted);
         IS(wasmloop_stop_told(&byte, 0, &none, &text, most, &count), wanted);
         IS(wasmloop_stop_told(&byte, most, &none, &text, 0, &count), wanted);
         IS(wasmloop_warning(&none, 0, &text, most, &count), wanted);
@@ -103,6 +106,8 @@ static void nulls(void) {
     wasmloop_task task = { 1000000, 0, 64 };
     wasmloop_ended ended;
     wasmloop_fault fault;
+    wasmloop_listed listed;
+    wasmloop_type type;
     uint64_t count;
     uint32_t values;
     int32_t answer;
@@ -111,6 +116,19 @@ static void nulls(void) {
     IS(wasmloop_call_begin(&it, "uv_work", NULL, 1, &call_limits), WASMLOOP_NULL);
     IS(wasmloop_call(&it, "uv_work", NULL, 0, &call_limits, &ended), WASMLOOP_ARGUMENTS);
     IS(wasmloop_call_begin(&it, "uv_work", NULL, 0, &call_limits), WASMLOOP_ARGUMENTS);
+    IS(wasmloop_call_for(&it, 0, NULL, 1, &call_limits, 1, &values, &ended), WASMLOOP_NULL);
+    IS(wasmloop_call_for(&it, 0, NULL, 0, &call_limits, 1, NULL, &ended), WASMLOOP_NULL);
+    IS(wasmloop_call_for(&it, 0, NULL, 0, &call_limits, 1, &values, NULL), WASMLOOP_NULL);
+    IS(wasmloop_call_for(&it, 0, NULL, 0, NULL, 1, &values, &ended), WASMLOOP_NULL);
+    IS(wasmloop_call_for(NULL, 0, NULL, 0, &call_limits, 1, &values, &ended), WASMLOOP_NULL);
+    IS(wasmloop_call_end(NULL, &ended), WASMLOOP_NULL);
+    IS(wasmloop_call_end(&it, NULL), WASMLOOP_NULL);
+    IS(wasmloop_export_at(NULL, 0, NULL, 0, &listed, &type), WASMLOOP_NULL);
+    IS(wasmloop_export_at(&module, 0, NULL, 1, &listed, &type), WASMLOOP_NULL);
+    IS(wasmloop_export_at(&module, 0, NULL, 0, NULL, &type), WASMLOOP_NULL);
+    IS(wasmloop_export_at(&module, 0, NULL, 0, &listed, NULL), WASMLOOP_NULL);
+    IS(wasmloop_export_at(&module, 0, NULL, 0, &listed, &type), WASMLOOP_OK);
+    IS(listed.length > 0 && listed.kind < 4 && listed.zero == 0, 1);
     IS(wasmloop_write(&it, 0, NULL, 1), WASMLOOP_NULL);
     IS(wasmloop_write(&it, 0, NULL, 0), WASMLOOP_OK);
     IS(wasmloop_read(&it, 0, NULL, 1), WASMLOOP_NULL);
@@ -218,15 +236,16 @@ static void names(void) {
     IS(strcmp(wasmloop_version(), WASMLOOP_VERSION), 0);
 }
 
-/* a call of wasmloop_turn runs no more callbacks than it may, and adds them up until the iteration is over */
+/* a call of wasmloop_turn runs no more callbacks than it may, and adds them up until the iteration is over, whatever is in the struct before */
 static void callbacks(void) {
     wasmloop_handle loop = loop_of(two, sizeof two);
     for (uint32_t most = 1; most < 4; most++) {
         wasmloop_turned told;
-        memset(&told, 0, sizeof told);
-        for (int turn = 0; turn < 8; turn++) {
-            uint32_t before = told.did.what == WASMLOOP_ENTERED ? 0 : told.callbacks;
+        uint32_t before = 0;
+        for (int turn = 0; turn < 8; turn++, before = told.did.what == WASMLOOP_ENTERED ? 0 : told.callbacks) {
+            memset(&told, turn % 2 ? 0 : 0xab, sizeof told);
             IS(wasmloop_turn(&loop, most, &told), WASMLOOP_OK);
+            IS(told.zero, 0);
             IS(told.callbacks - before <= most, 1);
             IS(told.wait, 0);
             if (told.did.what == WASMLOOP_RAN) IS(told.callbacks - before, most);
@@ -244,12 +263,15 @@ static void callbacks(void) {
     IS(told.did.what == WASMLOOP_ENTERED && told.callbacks == 1 && told.wait == 0, 1);
     IS(wasmloop_turn(&loop, 100, &told), WASMLOOP_OK);
     IS(told.did.what == WASMLOOP_ENTERED && told.callbacks == 0 && told.wait == 50, 1);
-    /* the count stays at its greatest value */
+    /* what the caller wrote is not added */
     told.did.what = WASMLOOP_RAN, told.callbacks = UINT32_MAX;
     uint64_t now;
     IS(wasmloop_clock(&loop, 50, &now), WASMLOOP_OK);
     IS(wasmloop_turn(&loop, 100, &told), WASMLOOP_OK);
-    IS(told.callbacks, UINT32_MAX);
+    IS(told.did.what == WASMLOOP_ENTERED && told.callbacks == 0, 1);
+    told.callbacks = UINT32_MAX;
+    IS(wasmloop_turn(&loop, 100, &told), WASMLOOP_OK);
+    IS(told.callbacks, 1);
     IS(wasmloop_drop(&loop), WASMLOOP_OK);
     /* a loop that has failed waits for ever, though it is alive and its timer is due */
     wasmloop_handle module = loaded(emits, sizeof emits);

@@ -19,6 +19,7 @@ typedef struct slot {
     uint32_t number;        /* the number of a loop, or of a job's loop */
     int file;               /* of which it was loaded, or -1 */
     uint64_t used, fuel;    /* of a paused job or call, or at most of a paused callback; and of such a call, or of a loop's callbacks */
+    uint32_t counted;       /* the callbacks that turns of a loop have run in its iteration */
 } slot;
 
 typedef struct file {
@@ -136,7 +137,15 @@ static void load(slot *it) {
     int is_same = length == from->length && !memcmp(bytes, from->bytes, length);
     wasmloop_fault fault;
     memset(&fault, GUARD, sizeof fault);
-    int status = CALL(wasmloop_load(length ? bytes : NULL, length, &it->handle, &fault));
+    size_t room = below(300);
+    uint64_t count = GUARD;
+    char *into = room_for(room);
+    int tells = below(2);
+    int status = tells ? CALL(wasmloop_load_told(length ? bytes : NULL, length, &it->handle, &fault, into, room, &count))
+        : CALL(wasmloop_load(length ? bytes : NULL, length, &it->handle, &fault));
+    if (tells && status == WASMLOOP_REFUSED) is("load_told says something", count > 0 && count < 4000, 1);
+    else is("load says nothing", count, GUARD);
+    done_with("load_told", into, room, tells && status == WASMLOOP_REFUSED ? count : 0);
     if (it->kind) told("load", status, WASMLOOP_KIND);
     else if (is_same) told("load", status, from->is_module ? WASMLOOP_OK : WASMLOOP_REFUSED);
     else told_one("load", status, WASMLOOP_OK, WASMLOOP_REFUSED);
@@ -163,6 +172,23 @@ static void shape(slot *it) {
     if (!told("shape_of", status, of_kind(it, MODULE))) { untouched("shape", &shape, sizeof shape); return; }
     is("pages", shape.pages <= shape.most_pages && shape.most_pages <= 64, 1);
     if (it->file >= 0) is("shape", memcmp(&shape, &files[it->file].shape, sizeof shape), 0);
+}
+
+/* An export: at most as much of its name is written as there is room for. */
+static void export(slot *it) {
+    wasmloop_listed listed;
+    wasmloop_type type;
+    memset(&listed, GUARD, sizeof listed), memset(&type, GUARD, sizeof type);
+    size_t room = below(20);
+    uint8_t *name = room_for(room);
+    int status = CALL(wasmloop_export_at(&it->handle, below(8) ? below(6) : draw(), (char *)name, room, &listed, &type));
+    if (it->kind == MODULE) told_one("export_at", status, WASMLOOP_OK, WASMLOOP_NONE);
+    else told("export_at", status, of_kind(it, MODULE));
+    done_with("export_at", name, room, status == WASMLOOP_OK ? listed.length : 0);
+    if (status != WASMLOOP_OK) { untouched("listed", &listed, sizeof listed), untouched("type", &type, sizeof type); return; }
+    is("an export's kind", listed.kind < 4 && !listed.zero, 1);
+    if (listed.kind) untouched("type", &type, sizeof type);
+    else is("a type's counts", type.params <= 256 && type.results <= 16, 1);
 }
 
 static void function(slot *it) {
@@ -231,10 +257,11 @@ static void stop_told(slot *it) {
     size_t room = below(400);
     uint64_t count = GUARD;
     char *into = room_for(room);
-    int number = it->file >= 0 && below(4) ? it->file : (int)below(file_count);
-    int status = CALL(wasmloop_stop_told(files[number].bytes, files[number].length, &it->handle, into, room, &count));
+    int number = it->file >= 0 && below(4) ? it->file : (int)below(file_count), by_own = !below(4);
+    int status = by_own ? CALL(wasmloop_stop_told(NULL, 0, &it->handle, into, room, &count))
+        : CALL(wasmloop_stop_told(files[number].bytes, files[number].length, &it->handle, into, room, &count));
     int stops = it->kind == LOOP || it->kind == INSTANCE || (it->kind == JOB && it->has_run);
-    int fits = number == it->file ? WASMLOOP_OK : WASMLOOP_REFUSED;
+    int fits = by_own || number == it->file ? WASMLOOP_OK : WASMLOOP_REFUSED;
     if (is_between_slices(it)) told("stop_told of what is paused", status, it->used ? fits : WASMLOOP_NONE);
     else if (it->kind == JOB && !it->has_run) told("stop_told of a job that was not run", status, WASMLOOP_NONE);
     else if (!stops) told("stop_told", status, of_kind(it, LOOP));
@@ -296,12 +323,27 @@ static void step(slot *it) {
     }
 }
 
+/* What is in the struct before a turn does not count. */
+static wasmloop_turned some_turned(void) {
+    wasmloop_turned turned = { 0 };
+    turned.wait = draw(), turned.callbacks = draw(), turned.zero = draw();
+    return turned;
+}
+
+/* How many callbacks ended in a call of wasmloop_turn or _turn_for. */
+static uint32_t counted(slot *it, const wasmloop_turned *turned, int is_over, uint32_t most) {
+    uint32_t count = turned->callbacks - it->counted;
+    is("a turn's callbacks", count <= most && turned->callbacks >= it->counted && !turned->zero, 1);
+    it->counted = is_over && turned->did.what == WASMLOOP_ENTERED ? 0 : turned->callbacks;
+    return count;
+}
+
 static void turn(slot *it) {
-    wasmloop_turned turned = { 0 }, before = turned;
+    wasmloop_turned turned = some_turned(), before = turned;
     uint32_t most = below(5);
     int status = CALL(wasmloop_turn(&it->handle, most, &turned));
     if (!told("turn", status, most ? of_kind(it, LOOP) : WASMLOOP_RANGE)) { is("turned", memcmp(&turned, &before, sizeof turned), 0); return; }
-    is("a turn's callbacks", turned.callbacks <= most, 1);
+    counted(it, &turned, 1, most);
     wasmloop_standing standing = { 0 };
     wasmloop_standing_of(&it->handle, &standing);
     if (standing.failed) is("a failed loop's wait", turned.wait == WASMLOOP_FOREVER, 1);
@@ -341,7 +383,7 @@ static void step_for(slot *it) {
 }
 
 static void turn_for(slot *it) {
-    wasmloop_turned turned = { 0 }, before = turned;
+    wasmloop_turned turned = some_turned(), before = turned;
     wasmloop_standing standing = { 0 };
     uint32_t most = below(5), over = GUARD;
     uint64_t units = some_units();
@@ -352,9 +394,9 @@ static void turn_for(slot *it) {
         return;
     }
     is("over", over <= 1, 1);
-    is("a turn's callbacks", turned.callbacks <= most, 1);
+    uint32_t count = counted(it, &turned, over, most);
     it->kind = wasmloop_standing_of(&it->handle, &standing) == WASMLOOP_KIND ? STEPPING : LOOP;
-    if (over || turned.callbacks) it->used = 0;
+    if (over || count) it->used = 0;
     if (over) { is("a turn that is over", it->kind, LOOP); did_right(it, &turned.did); return; }
     is("the wait of a turn that isn't over", turned.wait == 0, 1);
     if (it->kind == STEPPING) paused_steps++, it->used += units;
@@ -566,6 +608,30 @@ static void end_call(slot *it) {
     stop(it, it->used > 0);
 }
 
+/* A call and its first slice. */
+static void first_slice(slot *it) {
+    wasmloop_call_limits limits = { below(100000), depth(), 0 };
+    wasmloop_ended told_of;
+    memset(&told_of, GUARD, sizeof told_of);
+    uint64_t args[4] = { draw(), draw(), draw(), (uint64_t)draw() << 20 }, units = some_units();
+    uint32_t over = GUARD;
+    int wanted = is_depth(limits.depth) && units ? of_kind(it, INSTANCE) : WASMLOOP_RANGE;
+    int status = CALL(wasmloop_call_for(&it->handle, below(8), args, below(5), &limits, units, &over, &told_of));
+    if (wanted == WASMLOOP_OK && (status == WASMLOOP_NONE || status == WASMLOOP_ARGUMENTS)) wanted = status;
+    if (!told("call_for", status, wanted)) is("over", over, GUARD);
+    if (status != WASMLOOP_OK || !over) untouched("ended", &told_of, sizeof told_of);
+    if (status != WASMLOOP_OK) return;
+    is("over", over <= 1, 1);
+    if (!over) {
+        paused_calls++, it->kind = CALLING, it->used = units, it->fuel = limits.fuel;
+        is("a paused call's fuel", units < limits.fuel, 1);
+        return;
+    }
+    ended_right(&told_of, limits.fuel);
+    is("the units of its slice", told_of.used <= units, 1);
+    stop(it, told_of.ending != WASMLOOP_RETURN);
+}
+
 static void call_for(slot *it) {
     if (!below(16)) { end_call(it); return; }
     for (uint32_t more = below(6); more < 6; more++) {
@@ -649,6 +715,8 @@ static void globals(slot *a, slot *b) { (void)b, global(a); }
 static void call_of(slot *a, slot *b) { (void)b, call(a); }
 static void begins(slot *a, slot *b) { (void)b, begin_call(a); }
 static void calls_for(slot *a, slot *b) { (void)b, call_for(a); }
+static void first_slices(slot *a, slot *b) { (void)b, first_slice(a); }
+static void exports(slot *a, slot *b) { (void)b, export(a); }
 static void memories(slot *a, slot *b) { (void)b, memory(a); }
 
 /* The calls, and of what kind the two handles are mostly given. */
@@ -674,6 +742,8 @@ static const struct { void (*call)(slot *, slot *); int first, second; } all[] =
     { steps, STEPPING, NOTHING }, { turns, STEPPING, NOTHING }, { owns, STEPPING, NOTHING }, { looks, STEPPING, NOTHING },
     { next_job, STEPPING, NOTHING }, { start, STEPPING, JOB }, { accept, STEPPING, JOB }, { asks, STEPPING, NOTHING },
     { memories, STEPPING, NOTHING }, { globals, STEPPING, NOTHING }, { tells, STEPPING, NOTHING }, { drops, STEPPING, NOTHING },
+    { first_slices, INSTANCE, NOTHING }, { first_slices, INSTANCE, NOTHING }, { first_slices, CALLING, NOTHING },
+    { exports, MODULE, NOTHING }, { exports, INSTANCE, NOTHING },
     { tells, CALLING, NOTHING }, { tells, LOOP, NOTHING }, { tells, INSTANCE, NOTHING }, { tells, JOB, NOTHING }, { tells, MODULE, NOTHING },
 };
 
@@ -681,6 +751,12 @@ static const struct { void (*call)(slot *, slot *); int first, second; } all[] =
 static void kept(const slot *it, const slot *before) {
     if (it->kind == before->kind && it->id == before->id) is("a handle's words", memcmp(&it->handle, &before->handle, sizeof it->handle), 0);
     is("a handle's mark", it->handle.mark != 0, it->kind != NOTHING);
+    static const uint32_t kinds[] = { WASMLOOP_HOLDS_NOTHING, WASMLOOP_HOLDS_MODULE, WASMLOOP_HOLDS_LOOP, WASMLOOP_HOLDS_JOB,
+        WASMLOOP_HOLDS_JOB + WASMLOOP_HOLDS_PAUSED, WASMLOOP_HOLDS_INSTANCE, WASMLOOP_HOLDS_INSTANCE + WASMLOOP_HOLDS_PAUSED,
+        WASMLOOP_HOLDS_LOOP + WASMLOOP_HOLDS_PAUSED };
+    uint32_t kind = GUARD;
+    is("kind", CALL(wasmloop_kind(&it->handle, &kind)), WASMLOOP_OK);
+    is("what a handle holds", kind, kinds[it->kind]);
 }
 
 static slot *some(int kind) {

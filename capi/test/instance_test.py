@@ -82,6 +82,10 @@ call = two.begin("spin")
 assert (call.run_for(70), call.stop(), two.used, two.call("add", 0)) == (False, 70, 70, 15)
 print(fails(w.Stopped, call.result, ending="spent", used=70), fails(w.Error, call.stop, status=w.KIND))
 assert two.begin("add", 9).stop() == 0 and two.call("add", 0) == 15
+# a call and its first slice
+call = two.call_for("add", 9, units=1)
+assert (call.run_for(1000), call.result()) == (True, 24) and two.call_for("add", 1, units=1000).result() == 25
+assert ("add", "function") in [(name, kind) for name, kind, _ in module.exports]
 print(fails(w.Error, lambda: two.begin("absent"), status=w.NONE))
 print(fails(w.Error, lambda: two.begin("add", 1, depth=129), status=w.RANGE))
 print(fails(w.Error, lambda: in_slices(0, "add", 1), status=w.RANGE))

@@ -5,14 +5,14 @@
 #include "wasmloop.h"
 void *__real_malloc(size_t n);
 void *__real_realloc(void *p, size_t n);
-static long left = -1;
-static int refused(void) { return left >= 0 && left-- == 0; }
+static long left = -1, asked;
+static int refused(void) { return asked++, left >= 0 && left-- == 0; }
 void *__wrap_malloc(size_t n) { return refused() ? NULL : __real_malloc(n); }
 void *__wrap_realloc(void *p, size_t n) { return refused() ? NULL : __real_realloc(p, n); }
 
 static uint8_t bytes[1 << 21];
 static size_t length;
-static long told[10];
+static long told[12];
 
 /* a second handle, work without a loop, and a refusal's sentence */
 static int other_calls(wasmloop_handle *module, int *again) {
@@ -72,6 +72,40 @@ static int turns(wasmloop_handle *loop, wasmloop_did *did, int *again) {
     return 0;
 }
 
+/* a call and its slices: of a function of at most 8 parameters and 1 result none takes memory */
+static int first_slices(wasmloop_handle *module, wasmloop_handle *instance) {
+    static const wasmloop_call_limits limits = { 1000, 64, 0 };
+    wasmloop_listed listed;
+    wasmloop_type type;
+    uint64_t args[256] = { 0 };
+    for (uint64_t number = 0; wasmloop_export_at(module, number, NULL, 0, &listed, &type) == WASMLOOP_OK; number++) {
+        wasmloop_ended ended;
+        uint32_t over = 0;
+        long before = asked;
+        if (listed.kind || type.params > 8 || type.results > 1) continue;
+        if (wasmloop_call_for(instance, number, args, type.params, &limits, 10, &over, &ended)) return 20;
+        while (!over)
+            if (wasmloop_call_run_for(instance, 100, &over, &ended)) return 21;
+        if (asked != before) return 22;
+        told[11]++;
+    }
+    return 0;
+}
+
+/* an instance */
+static int instances(wasmloop_handle *module, int *again) {
+    static const wasmloop_call_limits limits = { 1000000, 64, 0 };
+    wasmloop_handle instance = WASMLOOP_HANDLE_INIT;
+    wasmloop_ended ended;
+    int got;
+    while ((got = wasmloop_instance(module, &limits, &instance, &ended)) != WASMLOOP_OK) {
+        if ((*again)++ > 2 || got != WASMLOOP_MEMORY) return 23;
+        told[10]++;
+    }
+    if ((got = first_slices(module, &instance))) return got;
+    return wasmloop_drop(&instance) ? 25 : 0;
+}
+
 /* all that a host does with a guest; what is answered MEMORY is counted and done again */
 static int life(void) {
     wasmloop_handle module = WASMLOOP_HANDLE_INIT, loop = WASMLOOP_HANDLE_INIT, job = WASMLOOP_HANDLE_INIT;
@@ -89,7 +123,7 @@ static int life(void) {
         if (again++ > 2 || got != WASMLOOP_MEMORY) return 2;
         told[1]++;
     }
-    if ((got = other_calls(&module, &again))) return got;
+    if ((got = other_calls(&module, &again)) || (got = instances(&module, &again))) return got;
     if (wasmloop_drop(&module)) return 3;
     if ((got = asks(&loop, &again))) return got;
     for (int i = 0; i < 400; i++) {
@@ -125,8 +159,9 @@ int main(int argc, char **argv) {
         }
         left = -1;
         printf("%s: each of %ld allocations refused in turn; answered: load %ld, loop %ld, next_job %ld, job_run %ld, share %ld, work %ld, explain %ld, request %ld, "
-            "step_for %ld, turn_for %ld\n", argv[k], n, told[0], told[1], told[2], told[3], told[4], told[5], told[6], told[7], told[8], told[9]);
-        for (int i = 0; i < 10; i++) told[i] = 0;
+            "step_for %ld, turn_for %ld, instance %ld; %ld calls in slices took none\n", argv[k], n, told[0], told[1], told[2], told[3], told[4], told[5],
+            told[6], told[7], told[8], told[9], told[10], told[11]);
+        for (int i = 0; i < 12; i++) told[i] = 0;
     }
     return 0;
 }

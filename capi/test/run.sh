@@ -133,6 +133,7 @@ checked="-g -O1 -fsanitize=address,undefined -fno-sanitize-recover"
 {
     try cc $c $checked -o "$out/calls_test" "$here/calls_test.c" "$lib/libwasmloop.a" -lpthread
     try cc $c $checked -o "$out/edges_test" "$here/edges_test.c" "$lib/libwasmloop.a"
+    try cc $c $checked -o "$out/texts_test" "$here/texts_test.c" "$lib/libwasmloop.a"
     try cc $c $checked -o "$out/slices_test" "$here/slices_test.c" "$lib/libwasmloop.a"
     try cc $c $checked -o "$out/steps_test" "$here/steps_test.c" "$lib/libwasmloop.a"
     try cc $c $checked -o "$out/turn_units" "$here/turn_units.c" "$lib/libwasmloop.a"
@@ -146,6 +147,7 @@ checked="-g -O1 -fsanitize=address,undefined -fno-sanitize-recover"
 "$out/calls_test" "$examples" || fail "the calls, under AddressSanitizer"
 "$out/calls_test_threads" "$examples" || fail "the calls, under ThreadSanitizer"
 "$out/edges_test" "$examples" || fail "the edges, under AddressSanitizer"
+"$out/texts_test" "$examples" || fail "the texts, under AddressSanitizer"
 "$out/slices_test" "$examples" || fail "jobs in slices, under AddressSanitizer"
 "$out/steps_test" "$examples" || fail "loops in slices, under AddressSanitizer"
 "$out/turn_units" "$examples" || fail "the units of turns in slices"
@@ -184,7 +186,15 @@ if command -v pkg-config > /dev/null; then
     # shellcheck disable=SC2046
     try cc -o "$out/first_shared" "$out/first.c" $(pkg-config --cflags --libs wasmloop) "-Wl,-rpath,$lib"
     [ "$("$out/first_shared" "$examples/crc32.wasm")" = "$("$out/first" "$examples/crc32.wasm")" ] || fail "the shared library"
+    # shellcheck disable=SC2046
+    try cc -o "$out/first_static" "$out/first.c" $(pkg-config --cflags --libs wasmloop-static)
+    [ "$("$out/first_static" "$examples/crc32.wasm")" = "$("$out/first" "$examples/crc32.wasm")" ] || fail "wasmloop-static.pc"
 else left_out "wasmloop.pc: there is no pkg-config"; fi
+
+# a plug-in that has the library within exports its own names alone
+# shellcheck disable=SC2086
+try cc $c -shared -fPIC -o "$out/plugin.so" -Dmain=plugin_main "$out/first.c" "$lib/libwasmloop.a"
+[ "$(nm -D --defined-only "$out/plugin.so" | awk '{ print $3 }')" = plugin_main ] || fail "a plug-in exports more than its own names"
 
 if command -v c++ > /dev/null; then
     printf '#include "wasmloop.h"\nint main() { return wasmloop_version() ? 0 : 1; }\n' > "$out/header.cc"

@@ -38,7 +38,7 @@ later='popcnt|lzcnt|pshufb|palignr|ptest|pinsr[bdq]|pextr[bdq]|pblend[a-z]*|pmov
 later=$(objdump -d --no-show-raw-insn "$shared" | grep -cE "\\b($later)")
 is 'instructions of later processors in libwasmloop.so' 0 "$later"
 
-names=$(sed -n 's/^[a-z].*[ *]\(wasmloop_[a-z_]*\)(.*;$/\1/p' "$here/../include/wasmloop.h" | list)
+names=$(sed -n 's/^[a-z].*[ *]\(wasmloop_[a-z_]*\)(.*/\1/p' "$here/../include/wasmloop.h" | list)
 is 'names of libwasmloop.so' "$names" "$(nm -D --defined-only "$shared" | awk '$2 == "T" { sub("@.*", "", $3); print $3 }' | list)"
 is 'names of libwasmloop.a' "$names" "$(nm -g --defined-only "$static" | awk 'NF == 3 { print $3 }' | list)"
 for file in "$shared" "$static"; do

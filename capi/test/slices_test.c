@@ -369,6 +369,9 @@ static void call_stands(const char *name, uint64_t units, unsigned slices) {
     IS(wasmloop_drop(&it), WASMLOOP_OK);
 }
 
+/* how many calls were paused between two slices when they were ended */
+static unsigned ended_paused;
+
 /* A call that is ended has ended as one with just that fuel, and the next call is the same after both. */
 static void call_is_ended(const char *name, uint64_t units, unsigned slices) {
     uint64_t args[1] = { 0 }, used = 0, count = 7, open = 8;
@@ -380,12 +383,17 @@ static void call_is_ended(const char *name, uint64_t units, unsigned slices) {
     memset(paused, 0, sizeof paused);
     memset(stopped, 0, sizeof stopped);
     IS(wasmloop_call_begin(&it, "uv_work", args, 1, &limits), WASMLOOP_OK);
-    for (unsigned k = 0; k < slices; k++) {
+    for (unsigned k = 0; k < slices && !over; k++) {
         IS(wasmloop_call_run_for(&it, units, &over, &ended), WASMLOOP_OK);
-        IS(over, 0);
         used += units;
     }
-    IS(wasmloop_call_end(&it, &ended), WASMLOOP_OK);
+    IS(wasmloop_call_end(&it, &ended), over ? WASMLOOP_KIND : WASMLOOP_OK);
+    if (over) {
+        IS(wasmloop_drop(&it), WASMLOOP_OK);
+        IS(wasmloop_drop(&once), WASMLOOP_OK);
+        return;
+    }
+    ended_paused += slices > 0;
     limits.fuel = used;
     IS(wasmloop_call(&once, "uv_work", args, 1, &limits, &whole), WASMLOOP_OK);
     IS(whole.ending, WASMLOOP_SPENT);
@@ -486,5 +494,7 @@ int main(int argc, char **argv) {
     copies_end_slices();
     paused_call();
     no_call_is_ended();
+    printf("slices: %u paused calls ended\n", ended_paused);
+    IS(ended_paused >= 20, 1);
     return all_hold();
 }

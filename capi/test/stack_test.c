@@ -94,6 +94,23 @@ static void calls(void) {
     wasmloop_export_number(&module, "uv_work", &number);
     wasmloop_call_at(&instance, number, args, 1, &limits, &ended);
 }
+static void first_slice(void) {
+    wasmloop_call_limits limits = { 100000, 128, 0 };
+    wasmloop_ended ended;
+    uint64_t args[1] = { 0 }, number = 0;
+    uint32_t over;
+    wasmloop_export_number(&module, "uv_work", &number);
+    wasmloop_call_for(&instance, number, args, 1, &limits, 100, &over, &ended);
+}
+static void ends(void) {
+    wasmloop_ended ended;
+    wasmloop_call_end(&instance, &ended);
+}
+static void lists(void) {
+    wasmloop_listed listed;
+    wasmloop_type type;
+    for (uint64_t number = 0; wasmloop_export_at(&module, number, text, sizeof text, &listed, &type) == WASMLOOP_OK; number++) { }
+}
 static void begins(void) {
     wasmloop_call_limits limits = { 100000, 128, 0 };
     uint64_t args[1] = { 0 };
@@ -180,8 +197,8 @@ static const struct { const char *name; void (*call)(void); } all[] = {
     { "loop of nothing", makes_none }, { "step_for", steps_for }, { "turn_for", turns_for }, { "drop", drops },
     { "load", loads }, { "loop", makes_loop }, { "request", asks }, { "warning", warns }, { "turn", turns }, { "next_job", hands_out }, { "job_run", runs },
     { "accept", accepts }, { "job_new", makes_job }, { "job_run", runs }, { "stop", stops }, { "stop_told", stops_told },
-    { "stop_places", tells_places }, { "instance", makes_instance }, { "call", calls }, { "call_begin", begins }, { "call_run_for", goes_on },
-    { "call_run_for", goes_on }, { "work", works }, { "step", steps }, { "of a module", reads_module }, { "of a loop", reads_loop }, { "of a job", reads_job },
+    { "stop_places", tells_places }, { "instance", makes_instance }, { "call", calls }, { "call_for", first_slice }, { "call_end", ends },
+    { "export_at", lists }, { "call_begin", begins }, { "call_run_for", goes_on }, { "call_run_for", goes_on }, { "work", works }, { "step", steps }, { "of a module", reads_module }, { "of a loop", reads_loop }, { "of a job", reads_job },
     { "of an instance", inspects }, { "drop", drops }, { "load", loads }, { "loop", makes_loop }, { "job_new", makes_job }, { "job_start", starts },
     { "job_run_for", runs_for }, { "job_run_for", runs_for }, { "stop_places", tells_places }, { "drop", drops },
 };

@@ -144,12 +144,15 @@ static void steps_agree(struct pair *p, uint64_t fuel) {
     ran += once.what == WASMLOOP_RAN;
 }
 
-/* The callbacks of one call end in it, so a turn of which none does may have many. */
-static void turns_agree(struct pair *p, wasmloop_turned turned[2], uint64_t fuel) {
+/* The callbacks of one call end in it, so a turn of which none does may have many. What is in the struct before a call does not count. */
+static void turns_agree(struct pair *p, uint64_t fuel) {
+    wasmloop_turned turned[2];
     uint32_t over = 0;
     unsigned calls = 0;
+    memset(&turned[0], 0xab, sizeof *turned);
     IS(wasmloop_turn(&p->once, 1000000, &turned[0]), WASMLOOP_OK);
     for (; !over; calls++) {
+        memset(&turned[1], below(2) ? 0 : 0xcd, sizeof *turned);
         IS(wasmloop_turn_for(&p->cut, 1000000, some_units(fuel) * (1 + calls / 20), &over, &turned[1]), WASMLOOP_OK);
         if (!over) IS(turned[1].wait, 0);
     }
@@ -183,7 +186,6 @@ static void own(struct pair *p) {
 static void loops_agree(const uint8_t *code, size_t length, uint64_t fuel, uint32_t depth) {
     wasmloop_limits limits = { fuel, 100000, 3, depth };
     wasmloop_handle module = WASMLOOP_HANDLE_INIT;
-    wasmloop_turned turned[2] = { { .wait = 0 }, { .wait = 0 } };
     wasmloop_fault fault;
     struct pair p = { WASMLOOP_HANDLE_INIT, WASMLOOP_HANDLE_INIT };
     wasmloop_standing standing = { 0 };
@@ -193,7 +195,7 @@ static void loops_agree(const uint8_t *code, size_t length, uint64_t fuel, uint3
     IS(wasmloop_drop(&module), WASMLOOP_OK);
     for (int k = 0; k < MOST_STEPS && !standing.failed; k++) {
         if (below(3)) steps_agree(&p, fuel);
-        else turns_agree(&p, turned, fuel);
+        else turns_agree(&p, fuel);
         same(&p, k % 16 == 0);
         own(&p);
         IS(wasmloop_standing_of(&p.once, &standing), WASMLOOP_OK);
@@ -276,6 +278,26 @@ static void turn_is_cut(void) {
     IS(wasmloop_drop(&loop), WASMLOOP_OK);
 }
 
+/* A loop whose callbacks have sent to its asyncs does not wait for ever, though its host zeroes the struct in each turn, whole or in slices. */
+static void zeroed(uint64_t units) {
+    wasmloop_limits limits = { 1000000, 1000000, 0, 64 };
+    wasmloop_handle module = module_of("chatter.wasm"), loop = WASMLOOP_HANDLE_INIT;
+    wasmloop_turned turned = { .wait = 0 };
+    uint64_t now = 0;
+    IS(wasmloop_loop(&module, &limits, &loop), WASMLOOP_OK);
+    IS(wasmloop_drop(&module), WASMLOOP_OK);
+    for (int turn = 0; turn < 100 && turned.did.what != WASMLOOP_OVER && turned.wait != WASMLOOP_FOREVER; turn++) {
+        uint32_t over = units == 0;
+        IS(wasmloop_clock(&loop, now + turned.wait, &now), WASMLOOP_OK);
+        do {
+            memset(&turned, 0, sizeof turned);
+            IS(units ? wasmloop_turn_for(&loop, 100, units, &over, &turned) : wasmloop_turn(&loop, 100, &turned), WASMLOOP_OK);
+        } while (!over);
+    }
+    IS(turned.did.what, WASMLOOP_OVER);
+    IS(wasmloop_drop(&loop), WASMLOOP_OK);
+}
+
 int main(int argc, char **argv) {
     if (argc < 2) return 2;
     folder = argv[1];
@@ -285,9 +307,12 @@ int main(int argc, char **argv) {
         memcpy(codes[k], bytes, lengths[k]);
     }
     for (int k = 0; k < GUESTS; k++) loops_agree(codes[k], lengths[k], 1000000, 64);
-    for (unsigned long more = argc > 2 ? strtoul(argv[2], NULL, 10) : 5000; more; more--) one_loop();
+    for (unsigned long more = argc > 2 ? strtoul(argv[2], NULL, 10) : 5400; more; more--) one_loop();
     paused();
     turn_is_cut();
+    zeroed(0);
+    zeroed(1);
+    zeroed(50);
     printf("steps: %llu callbacks, %llu cuts, %llu turns cut\n", (unsigned long long)ran, (unsigned long long)cuts, (unsigned long long)turns_cut);
     IS(cuts >= 10000 || argc > 2, 1);
     return all_hold();

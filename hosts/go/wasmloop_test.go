@@ -197,6 +197,84 @@ func TestLoopEnds(t *testing.T) {
 	}
 }
 
+func TestLoopAsks(t *testing.T) {
+	l, err := guest(t, "../guest/echo.wasm").Loop(Limits{Fuel: 1e8}, Limits{Fuel: 1 << 50}, 0)
+	if err != nil {
+		t.Fatal(err)
+	}
+	ctx, cancel := context.WithCancel(bg)
+	ended, values := make(chan error), make(chan int64, 1000)
+	go func() {
+		ended <- l.Run(ctx, func(v []int64) {
+			for _, x := range v {
+				values <- x
+			}
+		})
+	}()
+	if n, err := l.Request(0, []byte("abc")); n <= 0 || err != nil || <-values != int64(n)<<32|3 {
+		t.Error(n, err)
+	}
+	if n, err := l.Request(0, make([]byte, 65537)); n != -22 || err != nil {
+		t.Error(n, err)
+	}
+	for k := 0; k < 100; k++ { // more than may be outstanding: endless, but cancelled
+		n, err := l.Request(1, nil)
+		if answer, wrong := l.Cancel(n); n <= 0 || err != nil || answer != 0 || wrong != nil {
+			t.Fatal(n, err, answer, wrong)
+		}
+		if answer, err := l.Cancel(n); answer == 0 || err != nil {
+			t.Error(answer, err)
+		}
+	}
+	if err := l.Send(2); err != nil { // a callback that does not end within this test
+		t.Error(err)
+	}
+	time.Sleep(20 * time.Millisecond)
+	cancel()
+	if err := <-ended; err != context.Canceled {
+		t.Error(err)
+	}
+	if _, err := l.Request(0, nil); err != ErrClosed {
+		t.Error(err)
+	}
+}
+
+func TestLoopFails(t *testing.T) {
+	l, err := guest(t, "../guest/echo.wasm").Loop(Limits{Fuel: 1e8}, Limits{}, 0)
+	if err != nil {
+		t.Fatal(err)
+	}
+	l.Send(1)
+	stopped := new(Stopped)
+	if err := l.Run(bg, func([]int64) {}); !errors.As(err, &stopped) || stopped.Ending != "unreachable" || !strings.Contains(stopped.Where, "(on_fail)") {
+		t.Error(err)
+	}
+}
+
+// A guest that queues endless work and cancels it, for ever, has no more of it than others.
+func TestWaste(t *testing.T) {
+	l, err := guest(t, "../guest/echo.wasm").Loop(Limits{Fuel: 1e8}, Limits{Fuel: 1 << 50}, 0)
+	if err != nil {
+		t.Fatal(err)
+	}
+	ctx, cancel := context.WithTimeout(bg, 10*time.Second)
+	if err := l.Send(4); err != nil {
+		t.Error(err)
+	}
+	most := 0
+	go func() {
+		for runtime.NumGoroutine() < mostWork && ctx.Err() == nil {
+			time.Sleep(time.Millisecond)
+		}
+		time.Sleep(200 * time.Millisecond)
+		most = runtime.NumGoroutine()
+		cancel()
+	}()
+	if err := l.Run(ctx, func([]int64) {}); err != context.Canceled || most > mostWork+20 {
+		t.Error(err, most, "goroutines")
+	}
+}
+
 func BenchmarkCall(b *testing.B) {
 	m := guest(b, rules)
 	i, f := made(b, m, Limits{}), fn(b, m, "score")

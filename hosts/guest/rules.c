@@ -83,3 +83,44 @@ UV_WORK(operation)
     uv_out_set(output, n);
     return (int32_t)n;
 }
+
+/* ---- For SQL ---- */
+
+/* A set: the numbers from 1 to n, of which `from` are told already. It returns how many bytes it has written, 0 behind the last. */
+EXPORT(series) int32_t series(int64_t n, int64_t *into, uint32_t room, uint32_t from)
+{
+    uint32_t count = 0;
+    for (; count < room / 8 && from + (int64_t)count < n; count++) into[count] = from + (int64_t)count + 1;
+    return (int32_t)(count * 8);
+}
+
+/* A set of text: the words of a text, each behind its length; NULL for "-". */
+EXPORT(words) int32_t words(const char *text, uint32_t size, char *into, uint32_t room, uint32_t from)
+{
+    uint32_t n = 0, word = 0, end;
+    for (uint32_t i = 0; i < size; i = end + 1) {
+        for (end = i; end < size && text[end] != ' ';) end++;
+        if (end == i || word++ < from) continue;
+        uint32_t length = end == i + 1 && text[i] == '-' ? UINT32_MAX : end - i, bytes = length == UINT32_MAX ? 0 : length;
+        if (n + 4 + bytes > room) break;
+        __builtin_memcpy(into + n, &length, 4);
+        __builtin_memcpy(into + n + 4, text + i, bytes);
+        n += 4 + bytes;
+    }
+    return (int32_t)n;
+}
+
+/* It says that there are more, for ever. */
+EXPORT(more) int32_t more(int64_t *into, uint32_t room, uint32_t from) { *into = from; return room < 8 ? 0 : 8; }
+
+/* Told of NULL: bit k of the first argument stands for argument k behind it. */
+EXPORT(total_of) int64_t total_of(uint32_t nulls, int64_t a, int64_t b) { return (nulls & 1 ? 0 : a) + (nulls & 2 ? 0 : b); }
+
+/* NULL of an empty text, "unknown" of NULL. */
+EXPORT(known) int32_t known(uint32_t nulls, const char *text, uint32_t size, char *into, uint32_t room)
+{
+    if (nulls) text = "unknown", size = 7;
+    if (size == 0 || size > room) return -1;
+    __builtin_memmove(into, text, size);
+    return (int32_t)size;
+}

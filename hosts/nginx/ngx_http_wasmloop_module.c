@@ -10,6 +10,7 @@
  *         wasmloop_type   text/plain;
  *         client_max_body_size 64k;
  *     }
+ *     location /guests { wasmloop_status; }      # counters of all workers, as Prometheus reads them
  *
  * The reply of uv_work is the response. A guest that fails gives 500, 503 or 504, for error_page; the error log says why and where. Variables for
  * log_format: $wasmloop_outcome, $wasmloop_fuel, $wasmloop_value. Modules are loaded when the configuration is: `nginx -t` reports one that is rejected,
@@ -45,8 +46,14 @@ typedef struct {
     ngx_queue_t queue;              /* among the running, while `runs` */
     ngx_event_t deadline;           /* its timer also keeps a worker that shuts down until the request is over */
     ngx_flag_t runs;
-    const char *late;
+    const char *late;               /* what ended it before it was over */
 } ctx_t;
+
+/* Of all workers, in shared memory, which reloads keep. Requests that ended are counted by outcome: the library's, but 0 is one whose client left. */
+enum { LATE = WASMLOOP_WORK_MEMORY + 1, BUSY, OUTCOMES };
+static const char late[] = "deadline", busy[] = "busy";
+typedef struct { ngx_atomic_t ended[OUTCOMES], fuel, running; } counters_t;
+static counters_t *counters;
 
 ngx_module_t ngx_http_wasmloop_module;
 static ngx_queue_t running;         /* of this worker */
@@ -58,14 +65,21 @@ static void leave(ctx_t *c)
     if (!c->runs) return;
     c->runs = 0;
     jobs--;
+    (void) ngx_atomic_fetch_add(&counters->running, -1);
     ngx_queue_remove(&c->queue);
     if (c->deadline.timer_set) { ngx_del_timer(&c->deadline); }
 }
 
+/* With the request. */
 static void drop_job(void *data)
 {
-    leave(data);
-    (void) wasmloop_drop(&((ctx_t *) data)->job);
+    ctx_t *c = data;
+    leave(c);
+    if (wasmloop_job_about(&c->job, &c->about) == WASMLOOP_OK) {
+        (void) ngx_atomic_fetch_add(&counters->ended[c->late == late ? LATE : c->late == busy ? BUSY : c->about.outcome], 1);
+        (void) ngx_atomic_fetch_add(&counters->fuel, c->about.used);
+    }
+    (void) wasmloop_drop(&c->job);
 }
 
 static void drop_module(void *data)
@@ -73,23 +87,22 @@ static void drop_module(void *data)
     (void) wasmloop_drop(data);
 }
 
-static ngx_int_t respond(ngx_http_request_t *r, const u_char *bytes, size_t length)
+static ngx_int_t respond(ngx_http_request_t *r, ngx_str_t type, const u_char *bytes, size_t length)
 {
-    conf_t *conf = ngx_http_get_module_loc_conf(r, ngx_http_wasmloop_module);
     ngx_int_t rc;
     ngx_chain_t out;
     ngx_buf_t *b;
     r->headers_out.status = NGX_HTTP_OK;
     r->headers_out.content_length_n = length;
-    r->headers_out.content_type = conf->type;
-    r->headers_out.content_type_len = conf->type.len;
+    r->headers_out.content_type = type;
+    r->headers_out.content_type_len = type.len;
     r->headers_out.content_type_lowcase = NULL;
     rc = ngx_http_send_header(r);
     if (rc == NGX_ERROR || rc > NGX_OK || r->header_only) return rc;
     if (length == 0) return ngx_http_send_special(r, NGX_HTTP_LAST);        /* an empty buffer is an alert */
     b = ngx_calloc_buf(r->pool);
     if (b == NULL) return NGX_ERROR;
-    b->pos = (u_char *) bytes;      /* in the job, which lives as long as the request's pool: no copy */
+    b->pos = (u_char *) bytes;      /* of a job, which lives as long as the request's pool: no copy */
     b->last = b->pos + length;
     b->memory = 1;
     b->last_buf = r == r->main;
@@ -99,30 +112,29 @@ static ngx_int_t respond(ngx_http_request_t *r, const u_char *bytes, size_t leng
     return ngx_http_output_filter(r, &out);
 }
 
-static ngx_int_t finish(ctx_t *c, const char *late)
+static ngx_int_t finish(ctx_t *c)
 {
     ngx_http_request_t *r = c->request;
     conf_t *conf = ngx_http_get_module_loc_conf(r, ngx_http_wasmloop_module);
     const uint8_t *bytes;
     uint64_t length;
     char told[900];
-    c->late = late;
     (void) wasmloop_job_about(&c->job, &c->about);
-    if (!late && wasmloop_job_view(&c->job, &bytes, &length) == WASMLOOP_OK) return respond(r, bytes, length);
-    (void) host_job_ended(conf->loaded->bytes, conf->loaded->length, &c->job, late, told, sizeof told);
+    if (!c->late && wasmloop_job_view(&c->job, &bytes, &length) == WASMLOOP_OK) return respond(r, conf->type, bytes, length);
+    (void) host_job_ended(conf->loaded->bytes, conf->loaded->length, &c->job, c->late, told, sizeof told);
     ngx_log_error(NGX_LOG_ERR, r->connection->log, 0, "wasmloop: %s", told);
-    return late || c->about.outcome == WASMLOOP_WORK_SPENT ? NGX_HTTP_GATEWAY_TIME_OUT
+    return c->late || c->about.outcome == WASMLOOP_WORK_SPENT ? NGX_HTTP_GATEWAY_TIME_OUT
         : c->about.outcome == WASMLOOP_WORK_MEMORY ? NGX_HTTP_SERVICE_UNAVAILABLE : NGX_HTTP_INTERNAL_SERVER_ERROR;
 }
 
 /* Ends a request from an event of ours: whatever waits on it goes on. */
-static void end(ctx_t *c, const char *late)
+static void end(ctx_t *c)
 {
     ngx_http_request_t *r = c->request;
     ngx_connection_t *connection = r->connection;
     leave(c);
     ngx_http_set_log_request(connection->log, r);
-    ngx_http_finalize_request(r, finish(c, late));
+    ngx_http_finalize_request(r, finish(c));
     ngx_http_run_posted_requests(connection);
 }
 
@@ -140,14 +152,16 @@ static void on_turn(ngx_event_t *ev)
         ctx_t *c = ngx_queue_data(ngx_queue_head(&running), ctx_t, queue);
         ngx_queue_remove(&c->queue);
         ngx_queue_insert_tail(&running, &c->queue);
-        if (slice(c)) end(c, NULL);
+        if (slice(c)) end(c);
     }
     if (!ngx_queue_empty(&running) && !ev->posted) { ngx_post_event(ev, &ngx_posted_next_events); }
 }
 
 static void on_deadline(ngx_event_t *ev)
 {
-    end(ev->data, "deadline");
+    ctx_t *c = ev->data;
+    c->late = late;
+    end(c);
 }
 
 /* Gathers the input: 0, or a status. */
@@ -184,10 +198,11 @@ static void body_read(ngx_http_request_t *r)
     int status = rc ? WASMLOOP_OK : wasmloop_job_new(&conf->loaded->module, &task, input.data, input.len, &c->job);
     if (status != WASMLOOP_OK) rc = status == WASMLOOP_RANGE ? NGX_HTTP_REQUEST_ENTITY_TOO_LARGE : NGX_HTTP_SERVICE_UNAVAILABLE;
     if (rc || slice(c)) {           /* a short one is over at once */
-        ngx_http_finalize_request(r, rc ? rc : finish(c, NULL));
+        ngx_http_finalize_request(r, rc ? rc : finish(c));
         return;
     }
     if (jobs >= conf->jobs) {
+        c->late = busy;
         ngx_log_error(NGX_LOG_ERR, r->connection->log, 0, "wasmloop: %ui requests run already (wasmloop_jobs)", jobs);
         ngx_http_finalize_request(r, NGX_HTTP_SERVICE_UNAVAILABLE);
         return;
@@ -202,6 +217,7 @@ static void body_read(ngx_http_request_t *r)
     ngx_add_timer(&c->deadline, conf->time);
     c->runs = 1;
     jobs++;
+    (void) ngx_atomic_fetch_add(&counters->running, 1);
     ngx_queue_insert_tail(&running, &c->queue);
     if (!turn.posted) { ngx_post_event(&turn, &ngx_posted_next_events); }
     r->read_event_handler = ngx_http_test_reading;      /* a client that leaves ends its request */
@@ -224,7 +240,38 @@ static ngx_int_t handler(ngx_http_request_t *r)
     return rc >= NGX_HTTP_SPECIAL_RESPONSE ? rc : NGX_DONE;
 }
 
+static ngx_int_t status_handler(ngx_http_request_t *r)
+{
+    static const char *names[OUTCOMES] = { "left", "done", "trap", "depth", "spent", "memory", late, busy };
+    ngx_str_t type = ngx_string("text/plain; version=0.0.4");
+    u_char *text = ngx_pnalloc(r->pool, 1024), *p = text;
+    ngx_int_t rc;
+    if (!(r->method & (NGX_HTTP_GET|NGX_HTTP_HEAD))) return NGX_HTTP_NOT_ALLOWED;
+    rc = ngx_http_discard_request_body(r);
+    if (rc != NGX_OK) return rc;
+    if (text == NULL) return NGX_HTTP_INTERNAL_SERVER_ERROR;
+    p = ngx_sprintf(p, "# TYPE wasmloop_requests_total counter\n");
+    for (ngx_uint_t i = 0; i < OUTCOMES; i++) p = ngx_sprintf(p, "wasmloop_requests_total{outcome=\"%s\"} %uA\n", names[i], counters->ended[i]);
+    p = ngx_sprintf(p, "# TYPE wasmloop_fuel_total counter\nwasmloop_fuel_total %uA\n", counters->fuel);
+    p = ngx_sprintf(p, "# TYPE wasmloop_running gauge\nwasmloop_running %A\n", counters->running);
+    return respond(r, type, text, p - text);
+}
+
 /* ---- Configuration ---- */
+
+static char *set_status(ngx_conf_t *cf, ngx_command_t *cmd, void *at)
+{
+    ngx_http_core_loc_conf_t *core = ngx_http_conf_get_module_loc_conf(cf, ngx_http_core_module);
+    (void) cmd, (void) at;
+    core->handler = status_handler;
+    return NGX_CONF_OK;
+}
+
+static ngx_int_t init_counters(ngx_shm_zone_t *zone, void *old)
+{
+    counters = zone->data = old ? old : ngx_slab_calloc((ngx_slab_pool_t *) zone->shm.addr, sizeof *counters);
+    return counters ? NGX_OK : NGX_ERROR;
+}
 
 static char *set_module(ngx_conf_t *cf, ngx_command_t *cmd, void *at)
 {
@@ -284,6 +331,7 @@ static ngx_command_t commands[] = {
     { ngx_string("wasmloop_jobs"), ANYWHERE, ngx_conf_set_num_slot, NGX_HTTP_LOC_CONF_OFFSET, offsetof(conf_t, jobs), NULL },
     { ngx_string("wasmloop_time"), ANYWHERE, ngx_conf_set_msec_slot, NGX_HTTP_LOC_CONF_OFFSET, offsetof(conf_t, time), NULL },
     { ngx_string("wasmloop_type"), ANYWHERE, ngx_conf_set_str_slot, NGX_HTTP_LOC_CONF_OFFSET, offsetof(conf_t, type), NULL },
+    { ngx_string("wasmloop_status"), NGX_HTTP_LOC_CONF|NGX_CONF_NOARGS, set_status, NGX_HTTP_LOC_CONF_OFFSET, 0, NULL },
     ngx_null_command
 };
 
@@ -330,7 +378,10 @@ static ngx_int_t variable(ngx_http_request_t *r, ngx_http_variable_value_t *v, u
 
 static ngx_int_t preconfiguration(ngx_conf_t *cf)
 {
-    static ngx_str_t names[] = { ngx_string("wasmloop_outcome"), ngx_string("wasmloop_fuel"), ngx_string("wasmloop_value") };
+    static ngx_str_t names[] = { ngx_string("wasmloop_outcome"), ngx_string("wasmloop_fuel"), ngx_string("wasmloop_value") }, name = ngx_string("wasmloop");
+    ngx_shm_zone_t *zone = ngx_shared_memory_add(cf, &name, 8 * ngx_pagesize, &ngx_http_wasmloop_module);
+    if (zone == NULL) return NGX_ERROR;
+    zone->init = init_counters;
     for (uintptr_t i = 0; i < 3; i++) {
         ngx_http_variable_t *v = ngx_http_add_variable(cf, &names[i], NGX_HTTP_VAR_NOCACHEABLE);
         if (v == NULL) return NGX_ERROR;

@@ -6,7 +6,7 @@ cd "$(dirname "$0")" || exit 1
 name=nginx
 . ../lib.sh
 ./build.sh || exit 1
-here=$PWD port=$(free_port)
+here=$PWD port=$(free_port) port2=$(free_port)
 mkdir "$room/logs" "$room/www"
 cp "$guest" "$room"
 chmod 755 "$room"
@@ -27,6 +27,7 @@ http {
     root $room/www;
     server {
         listen 127.0.0.1:$port;
+        listen 127.0.0.1:$port2 http2;
         location /slug { wasmloop ${1:-rules.wasm} 0; ${2:-} }
         location /q { wasmloop rules.wasm 0; wasmloop_input "\$request_method \$arg_name"; }
         location /if { wasmloop rules.wasm 0; if (\$arg_a) { add_header X-If yes; } limit_except GET POST { deny all; } }
@@ -38,7 +39,8 @@ http {
         location /grow { wasmloop rules.wasm 4; wasmloop_fuel 20000000000; wasmloop_time 300ms; }
         location /copies { wasmloop rules.wasm 5; wasmloop_fuel 20000000000; wasmloop_time 300ms; }
         location /deep { wasmloop rules.wasm 6; }
-        location /few { wasmloop rules.wasm 1; wasmloop_fuel 20000000000; wasmloop_time 500ms; wasmloop_jobs 2; }
+        location /few { wasmloop rules.wasm 1; wasmloop_fuel 20000000000; wasmloop_time 1500ms; wasmloop_jobs 2; }
+        location /status { wasmloop_status; }
         location /static { return 200 "hello"; }
         #RANDOM
         location /page { ssi on; default_type text/html; }
@@ -50,7 +52,7 @@ conf
 nginx -c "$room/nginx.conf" -p "$room" -t 2> "$room/t" || { cat "$room/t"; exit 1; }
 bench=()
 if [ "${1:-}" = bench ]; then       # a processor of its own; Lua and njs beside it (libnginx-mod-http-lua, -js)
-    bench=(chrt -f 10 taskset -c 3)
+    bench=(taskset -c "$last")
     echo 'function long(r) { var n = 0; for (var i = 0; i < 2000000; i++) { n = (n * 31 + i) | 0; } r.return(200, String(n)); } export default { long };' > "$room/rules.js"
     sed -i "1i load_module modules/ndk_http_module.so;\nload_module modules/ngx_http_lua_module.so;\nload_module modules/ngx_http_js_module.so;" "$room/nginx.conf"
     sed -i "s|#RANDOM|location /lua/long { content_by_lua_block { local n = 0 for i = 0, 1999999 do n = bit.tobit(n * 31 + i) end ngx.print(n) } } location /js/long { js_content rules.long; }|
@@ -66,7 +68,7 @@ letters() { head -c "$1" /dev/zero | tr '\0' A; }
 url=http://127.0.0.1:$port
 if [ "${1:-}" = bench ]; then
     for _ in 1 2 3; do for path in - /long /lua/long /js/long; do
-        chrt -f 20 taskset -c 3 timeout 10 python3 "$top/hosts/paced.py" http 127.0.0.1:"$port" $path
+        taskset -c "$last" timeout 10 python3 "$top/hosts/paced.py" http 127.0.0.1:"$port" $path
         sleep 0.5
     done; done
     exit
@@ -92,32 +94,52 @@ for each in 'an access outside the memory, after 22 units, in function 13 (uv_wo
 done
 want "$(get $url/spin)" "too late|504" "a deadline, and error_page"
 like "$(grep -E '^(/trap|/copies)' "$room/logs/access.log" | tail -2 | tr '\n' '|')" "/trap 500 trap * 4|/copies 504 deadline [0-9]* 0|" "the variables"
+# HTTP/2
+if curl -V | grep -q HTTP2; then
+    two=http://127.0.0.1:$port2
+    want "$(get --http2-prior-knowledge -d 'Over Two' $two/slug) $(code --http2-prior-knowledge $two/trap)" "over-two|200 500" "HTTP/2"
+    curl -s -m 0.1 -o /dev/null --http2-prior-knowledge $two/spin
+    sleep 0.4
+    want "$(tail -1 "$room/logs/access.log" | cut -d ' ' -f 1,2)" "/spin 499" "a client of HTTP/2 that leaves"
+else echo "left out: HTTP/2: curl lacks it"; fi
+# counters
+ended() { curl -s $url/status | sed -n "s/^wasmloop_[a-z_]*{outcome=\"$1\"} //p; s/^wasmloop_$1 //p"; }
+for each in "trap trap" "depth deep" "spent spent" "deadline copies" "done slug"; do
+    before=$(ended "${each% *}")
+    code "$url/${each#* }" > /dev/null
+    want "$(ended "${each% *}")" $((before + 1)) "the counter of ${each% *}"
+done
+want "$(code $url/status) $(code -d x $url/status) $(curl -s -D - -o /dev/null $url/status | grep -c '^Content-Type: text/plain; version=0.0.4')" "200 405 1" "the status page"
 # pages beside requests that take long
 for i in 1 2 3 4; do curl -s -o /dev/null $url/spin & rest[i]=$!; done
 sleep 0.1
-within 1000 "twenty pages beside four endless requests" curl -s "$url/static?[1-20]"
+within 3000 "twenty pages beside four endless requests" curl -s "$url/static?[1-20]"
 want "$said" "$(printf 'hello%.0s' $(seq 20))" "the pages"
 wait "${rest[@]}"
 # at most so many at a time
 for i in 1 2; do curl -s -o /dev/null $url/few & rest[i]=$!; done
 sleep 0.2
-want "$(code $url/few) $(code -d x $url/slug)" "503 200" "wasmloop_jobs"
+want "$(ended running) $(code $url/few) $(code -d x $url/slug)" "2 503 200" "wasmloop_jobs"
 wait "${rest[@]}"
+want "$(ended running) $(ended busy)" "0 1" "the counters of those that ran, and of the one that did not"
+left=$(ended left)
 # a client that leaves ends its request
 within 1000 "a client that leaves" curl -s -m 0.1 $url/spin
 sleep 0.4
-want "$(tail -1 "$room/logs/access.log" | cut -d ' ' -f 1,2)" "/spin 499" "a client that leaves"
+want "$(tail -1 "$room/logs/access.log" | cut -d ' ' -f 1,2) $(ended left)" "/spin 499 $((left + 1))" "a client that leaves"
+left=$(ended left)
 # a reload, and a worker that quits, finish what runs
 for how in HUP WINCH; do
     code $url/spin > "$room/$how" & rest[1]=$!
     sleep 0.3
-    [ $how = HUP ] && sed -i 's|location /slug { wasmloop rules.wasm 0;|location /slug { wasmloop rules.wasm 3; wasmloop_fuel 100000000;|' "$room/nginx.conf"
+    [ $how = HUP ] && sed -i 's|location /slug { wasmloop rules.wasm 0;|location /slug { wasmloop rules.wasm 3; wasmloop_fuel 100000000; wasmloop_time 20s;|' "$room/nginx.conf"
     kill -HUP $pid
     sleep 0.3
     [ $how = WINCH ] || want "$(get -d 'x' $url/slug)" "|200" "a reload"
     wait "${rest[1]}"
     want "$(cat "$room/$how")" 504 "a request that runs over a reload"
 done
+want "$(ended left) $(ended running)" "$left 0" "the counters after two reloads"
 conf
 kill -HUP $pid
 sleep 0.3

@@ -8,6 +8,7 @@
 #include "../host.h"
 
 #define SLICE 100000
+#define SLICES 4                /* of a turn on the pool: some milliseconds, then files and names that wait there have theirs */
 
 typedef struct thing {
     wasmloop_handle handle;
@@ -19,7 +20,7 @@ typedef struct thing {
     uint64_t *words;            /* of an instance: 256 arguments of the next call, then 16 results of the last one, in an ArrayBuffer of `held` */
     napi_ref held;
     wasmloop_ended ended;
-    wasmloop_turned told;       /* of a loop: it must last from turn to turn */
+    wasmloop_turned told;       /* of a loop: its last turn */
 } thing;
 
 static atomic_int quitting;      /* the process exits: it waits for the pool */
@@ -195,11 +196,13 @@ static napi_value begin(napi_env env, napi_callback_info info)
 /* What runs on the pool: a job, or a call that has begun. */
 typedef struct task { napi_async_work work; napi_deferred done; napi_ref refs[2]; thing *module, *of; int call; int s; uint32_t over; wasmloop_ended e; } task;
 
+static int goes_on(task *k) { return !k->over && k->s == WASMLOOP_OK && !atomic_load(&k->of->stop) && !atomic_load(&quitting); }
+
 static void execute(napi_env env, void *at)
 {
     task *k = at;
     (void)env;
-    while (!k->over && k->s == WASMLOOP_OK && !atomic_load(&k->of->stop) && !atomic_load(&quitting))
+    for (int i = 0; i < SLICES && goes_on(k); i++)
         k->s = k->call ? wasmloop_call_run_for(&k->of->handle, SLICE, &k->over, &k->e) : wasmloop_job_run_for(&k->of->handle, SLICE, &k->over);
 }
 
@@ -217,10 +220,25 @@ static napi_value about_of(napi_env env, thing *module, thing *t, uint32_t over)
     return o;
 }
 
+static void complete(napi_env env, napi_status s, void *at);
+
+/* Gives a task to the pool, for a turn. Not while its environment ends: then no call that may run JavaScript succeeds. */
+static int queue(napi_env env, task *k)
+{
+    napi_value name;
+    if (k->work) napi_delete_async_work(env, k->work);
+    k->work = NULL;
+    return napi_create_string_utf8(env, "wasmloop", NAPI_AUTO_LENGTH, &name) == napi_ok && napi_coerce_to_string(env, name, &name) == napi_ok
+        && napi_create_async_work(env, NULL, name, execute, complete, k, &k->work) == napi_ok && napi_queue_async_work(env, k->work) == napi_ok;
+}
+
 static void complete(napi_env env, napi_status s, void *at)
 {
     task *k = at; napi_value code, text, error;
-    (void)s;
+    if (s == napi_ok && goes_on(k)) {
+        if (queue(env, k)) return;
+        k->s = WASMLOOP_MEMORY;
+    }
     atomic_store(&k->of->busy, 0);
     if (k->s == WASMLOOP_OK) napi_resolve_deferred(env, k->done, k->call ? ended_of(env, k->module, k->of, &k->e, k->over) : about_of(env, k->module, k->of, k->over));
     else {
@@ -230,7 +248,7 @@ static void complete(napi_env env, napi_status s, void *at)
         napi_reject_deferred(env, k->done, error);
     }
     for (int i = 0; i < 2; i++) napi_delete_reference(env, k->refs[i]);
-    napi_delete_async_work(env, k->work);
+    if (k->work) napi_delete_async_work(env, k->work);
     free(k);
 }
 
@@ -238,7 +256,7 @@ static void complete(napi_env env, napi_status s, void *at)
 static napi_value pool(napi_env env, napi_callback_info info)
 {
     ARGS(3);
-    thing *m = get(env, v[0]), *t = m ? get(env, v[1]) : NULL; napi_value promise, name; task *k;
+    thing *m = get(env, v[0]), *t = m ? get(env, v[1]) : NULL; napi_value promise; task *k;
     if (!t) return NULL;
     if (!(k = calloc(1, sizeof *k))) return fail(env, "MEMORY", "out of memory");
     k->module = m; k->of = t; k->call = (int)u32(env, v[2]);
@@ -246,9 +264,7 @@ static napi_value pool(napi_env env, napi_callback_info info)
     atomic_store(&t->stop, 0);
     for (int i = 0; i < 2; i++) napi_create_reference(env, v[i], 1, &k->refs[i]);      /* neither is collected meanwhile */
     napi_create_promise(env, &k->done, &promise);
-    napi_create_string_utf8(env, "wasmloop", NAPI_AUTO_LENGTH, &name);
-    napi_create_async_work(env, NULL, name, execute, complete, k, &k->work);
-    napi_queue_async_work(env, k->work);
+    if (!queue(env, k)) { k->s = WASMLOOP_MEMORY; complete(env, napi_cancelled, k); }
     return promise;
 }
 
@@ -320,7 +336,8 @@ static napi_value turn_for(napi_env env, napi_callback_info info)
     set(env, o, "what", number(env, t->told.did.what));
     set(env, o, "ending", number(env, t->told.did.ending));
     set(env, o, "wait", number(env, over ? t->told.wait == WASMLOOP_FOREVER ? -1 : (double)t->told.wait : 0));
-    if (over && t->told.did.what == WASMLOOP_FAILED) set(env, o, "where", told(env, m, &t->handle));
+    set(env, o, "used", big(env, t->told.did.used));
+    if (over && (t->told.did.what == WASMLOOP_FAILED || t->told.did.ending)) set(env, o, "where", told(env, m, &t->handle));
     if (over && t->told.did.what == WASMLOOP_RAN && t->told.did.emits && wasmloop_emits(&t->handle, emits, 64, &n) == WASMLOOP_OK) {
         napi_create_array(env, &a);
         for (uint32_t i = 0; i < n; i++) { napi_create_bigint_int64(env, emits[i], &x); napi_set_element(env, a, i, x); }
@@ -332,28 +349,42 @@ static napi_value turn_for(napi_env env, napi_callback_info info)
 static napi_value next_job(napi_env env, napi_callback_info info)
 {
     ARGS(1);
-    thing *t = get(env, v[0]), *j; napi_value null;
+    thing *t = get(env, v[0]), *j; napi_value o; wasmloop_about a;
     if (!t || !(j = made(env))) return NULL;
-    if (wasmloop_next_job(&t->handle, &j->handle) == WASMLOOP_OK) return external(env, j);
-    free(j);
-    napi_get_null(env, &null);
-    return null;
+    if (wasmloop_next_job(&t->handle, &j->handle) != WASMLOOP_OK || wasmloop_job_about(&j->handle, &a) != WASMLOOP_OK) {
+        finalize(env, j, NULL);
+        napi_get_null(env, &o);
+        return o;
+    }
+    napi_create_object(env, &o);
+    set(env, o, "job", external(env, j));
+    set(env, o, "request", number(env, a.request));
+    return o;
 }
 static napi_value accept_job(napi_env env, napi_callback_info info) { ARGS(2); thing *t = get(env, v[0]), *j = t ? get(env, v[1]) : NULL; return j ? number(env, wasmloop_accept(&t->handle, &j->handle)) : NULL; }
 static napi_value async_send(napi_env env, napi_callback_info info) { ARGS(2); thing *t = get(env, v[0]); return t ? status(env, wasmloop_async_send(&t->handle, u32(env, v[1])), NULL) : NULL; }
+static napi_value cancel(napi_env env, napi_callback_info info)
+{
+    ARGS(2);
+    thing *t = get(env, v[0]); int32_t answer = 0; int s;
+    if (!t) return NULL;
+    s = wasmloop_cancel(&t->handle, u32(env, v[1]), &answer);
+    return status(env, s, number(env, answer));
+}
 static napi_value request(napi_env env, napi_callback_info info)
 {
     ARGS(3);
-    thing *t = get(env, v[0]); uint8_t *at; size_t n; int32_t answer = 0;
+    thing *t = get(env, v[0]); uint8_t *at; size_t n; int32_t answer = 0; int s;
     if (!t || !bytes_of(env, v[2], &at, &n)) return NULL;
-    return status(env, wasmloop_request(&t->handle, u32(env, v[1]), at, n, &answer), number(env, answer));
+    s = wasmloop_request(&t->handle, u32(env, v[1]), at, n, &answer);
+    return status(env, s, number(env, answer));
 }
 
 static napi_value init(napi_env env, napi_value exports)
 {
     static const struct { const char *name; napi_callback f; } all[] = { { "load", load }, { "type", type_of }, { "instance", instance }, { "callAt", call_at }, { "words", words }, { "last", last }, { "begin", begin },
         { "pool", pool }, { "stop", stop }, { "quit", quit }, { "job", job }, { "read", read_memory }, { "write", write_memory }, { "loop", loop }, { "turnFor", turn_for }, { "nextJob", next_job },
-        { "accept", accept_job }, { "send", async_send }, { "request", request } };
+        { "accept", accept_job }, { "send", async_send }, { "request", request }, { "cancel", cancel } };
     for (size_t i = 0; i < sizeof all / sizeof *all; i++) {
         napi_value f;
         napi_create_function(env, all[i].name, NAPI_AUTO_LENGTH, all[i].f, NULL, &f);

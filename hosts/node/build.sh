@@ -4,5 +4,5 @@ set -eu
 cd "$(dirname "$0")"
 mkdir -p out
 # shellcheck disable=SC2086
-${CC:-cc} -O2 -Wall -Wextra ${CFLAGS:-} -shared -fPIC -o out/wasmloop.node addon.c -I "${NODE_INCLUDE:-/usr/include/node}" -I ../../capi/include ../../dist/libwasmloop.a \
-    -Wl,--exclude-libs,ALL
+${CC:-cc} -O2 -Wall -Wextra ${CFLAGS:-} -shared -fPIC -o out/wasmloop.node addon.c -I "${NODE_INCLUDE:-/usr/include/node}" -I ../../capi/include \
+    "${WASMLOOP_FOLDER:-../../dist}/libwasmloop.a" -Wl,--exclude-libs,ALL

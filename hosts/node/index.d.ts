@@ -9,6 +9,8 @@ export interface LoopOptions extends Limits {
   onEmit?: (values: bigint[]) => void;
   /** Units between two looks at Node's own loop: 100,000. */
   units?: number | bigint;
+  /** Closes the loop, with its reason. */
+  signal?: AbortSignal;
 }
 /** An i32 is a number, an i64 a bigint. */
 export type Value = number | bigint;
@@ -45,9 +47,14 @@ export class Loop {
   constructor(module: Module, options?: LoopOptions);
   /** Resolves when the loop is over; rejects with Stopped if a callback fails, or with what close was given. */
   readonly done: Promise<void>;
+  /** How many requests have work on the pool: at most 32. */
+  readonly working: number;
   /** Sends to the guest's async of this number, from 0. */
   send(number: number): void;
-  /** Submits a work request: its number, or an error of the guest's interface below 0. */
-  request(operation: number, bytes: Uint8Array): Promise<number>;
-  close(why?: Error): void;
+  /** Submits a work request: its number, or an error of the guest's interface below 0. Rejects if the loop has ended. */
+  request(operation: number, bytes?: Uint8Array): Promise<number>;
+  /** Cancels a request, and ends its work: 0, or an error of the guest's own cancel. Rejects if the loop has ended. */
+  cancel(request: number): Promise<number>;
+  /** Ends the loop and its work: `done` rejects with this, unless it is settled. */
+  close(why?: unknown): void;
 }

@@ -4,6 +4,7 @@ const native = require('./out/wasmloop.node');
 const { performance } = require('node:perf_hooks');
 const { isMainThread } = require('node:worker_threads');
 if (isMainThread) process.once('exit', native.quit);     // else the process waits for what runs on the pool
+const MOST_WORK = 32;                                       // of a loop at a time: a guest that queues and cancels for ever has no more
 const ENDINGS = ['return', 'trap', 'depth', 'spent'], OUTCOMES = ['not run', 'done', 'trap', 'depth', 'spent', 'memory'];
 
 class Stopped extends Error {
@@ -79,45 +80,70 @@ class Instance {
 }
 
 class Loop {                                               // lives on node's own loop until it is over, or closed
-  #closed = false; #running_jobs = new Set();
-  #module; #handle; #timer; #start = performance.now(); #sent = false; #jobs = 0; #running = false; #now = false;
-  constructor(module, { fuel = 1e6, workFuel = 1e6, depth = 64, onEmit = () => {}, units = 100000 } = {}) {
+  #module; #handle; #timer; #signal; #settle; #ended = false; #running = false; #now = false;
+  #start = performance.now(); #jobs = new Map(); #pending = [];
+  #abort = () => this.close(this.#signal.reason);
+  constructor(module, { fuel = 1e6, workFuel = 1e6, depth = 64, onEmit = () => {}, units = 100000, signal } = {}) {
     this.#module = module; this.#handle = native.loop(module.handle, fuel, workFuel, 0, depth); this.onEmit = onEmit; this.units = units;
-    this.done = new Promise((resolve, reject) => { this.resolve = resolve; this.reject = reject; });
+    this.done = new Promise((resolve, reject) => { this.#settle = [resolve, reject]; });
+    this.#signal = signal;
+    if (signal?.aborted) return void this.#abort();
+    signal?.addEventListener('abort', this.#abort, { once: true });
     this.#soon();
   }
   #soon() { if (!this.#now) { this.#now = true; clearTimeout(this.#timer); setImmediate(() => this.#turn()); } }
-  #pending = [];                                           // replies and sends wait while a callback is paused
-  #later(f) { this.#pending.push(f); this.#sent = true; this.#soon(); }
-  send(number) { this.#later(() => native.send(this.#handle, number)); }
-  request(operation, bytes) { return new Promise((resolve) => this.#later(() => resolve(native.request(this.#handle, operation, bytes)))); }
-  close(why = new Error('the loop is closed')) {           // `done` is rejected, unless it is over
-    this.#closed = true;
-    clearTimeout(this.#timer);
-    for (const job of this.#running_jobs) native.stop(job);
-    this.reject(why);
+  #later(act, fail) {                                      // waits until no callback is paused
+    if (this.#ended) return fail?.(new Error('the loop has ended'));
+    this.#pending.push({ act, fail });
+    this.#soon();
   }
-  async #run(job) {
-    this.#jobs++;
-    this.#running_jobs.add(job);
+  #ask(act) {
+    return new Promise((resolve, reject) => this.#later(() => { try { resolve(act()); } catch (error) { reject(error); } }, reject));
+  }
+  get working() { return this.#jobs.size; }
+  send(number) {
+    if (!(number >= 0 && number < 16)) throw new RangeError(`an async has a number from 0 to 15, not ${number}`);
+    this.#later(() => native.send(this.#handle, number));
+  }
+  request(operation, bytes = new Uint8Array(0)) { return this.#ask(() => native.request(this.#handle, operation, bytes)); }
+  cancel(request) {
+    return this.#ask(() => {
+      const answer = native.cancel(this.#handle, request);
+      if (answer === 0 && this.#jobs.has(request)) native.stop(this.#jobs.get(request));
+      return answer;
+    });
+  }
+  close(why = new Error('the loop is closed')) { this.#end(why); }
+  #end(why) {                                              // the first end settles `done`
+    if (this.#ended) return;
+    this.#ended = true;
+    clearTimeout(this.#timer);
+    this.#signal?.removeEventListener('abort', this.#abort);
+    for (const job of this.#jobs.values()) native.stop(job);
+    for (const { fail } of this.#pending.splice(0)) fail?.(why || new Error('the loop has ended'));
+    const [resolve, reject] = this.#settle;
+    if (why) reject(why); else resolve();
+  }
+  async #run({ job, request }) {
+    this.#jobs.set(request, job);
     const told = await native.pool(this.#module.handle, job, 0);
-    this.#running_jobs.delete(job);
-    this.#jobs--;
+    this.#jobs.delete(request);
     if (told.over) this.#later(() => native.accept(this.#handle, job));
   }
   #turn() {
     this.#now = false;
-    if (!this.#closed) try { this.#step(); } catch (error) { this.close(error); }
+    if (!this.#ended) try { this.#step(); } catch (error) { this.#end(error); }
   }
   #step() {
-    if (!this.#running) for (const f of this.#pending.splice(0)) f();
+    if (!this.#running) for (const { act } of this.#pending.splice(0)) act();
     const told = native.turnFor(this.#module.handle, this.#handle, Math.floor(performance.now() - this.#start), this.units);
     this.#running = !told.over;
     if (!told.over) return this.#soon();
     if (told.emits) this.onEmit(told.emits);
-    if (told.what === 5) return this.reject(new Stopped(ENDINGS[told.ending] || 'failed', told));
-    for (let job; (job = native.nextJob(this.#handle));) this.#run(job).catch(this.reject);
-    if (told.what === 4 && !this.#jobs && !this.#pending.length) return this.resolve();
+    if (this.#ended) return;                               // by onEmit
+    if (told.what === 5 || told.ending) return this.#end(new Stopped(ENDINGS[told.ending], told));
+    for (let next; this.#jobs.size < MOST_WORK && (next = native.nextJob(this.#handle));) this.#run(next).catch((error) => this.#end(error));
+    if (told.what === 4) return this.#end();
     if (told.what !== 1 || told.wait === 0 || this.#pending.length) return this.#soon();
     if (told.wait > 0) this.#timer = setTimeout(() => this.#soon(), told.wait);
   }

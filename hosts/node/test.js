@@ -62,6 +62,21 @@ const tests = {
     clearInterval(timer);
     assert(ticks > 0);
   },
+  'files beside endless work': async () => {
+    const end = new AbortController(), all = Promise.allSettled(Array.from({ length: 8 }, () => rules.work(1, undefined, { fuel: 1e15, signal: end.signal })));
+    await new Promise((resolve) => setTimeout(resolve, 50));
+    await within(10000, async () => { for (let k = 0; k < 5; k++) await fs.promises.readFile(__filename); });
+    end.abort(new Error('enough'));
+    assert((await all).every((each) => each.reason?.message === 'enough'));
+  },
+  'a guest that queues and cancels endless work': async () => {
+    const loop = new Loop(new Module(read('hosts/guest/echo.wasm')), { fuel: 1e8, workFuel: 1e15 });
+    loop.send(4);
+    await new Promise((resolve) => setTimeout(resolve, 400));
+    assert.equal(loop.working, 32);
+    loop.close();
+    await assert.rejects(loop.done, /closed/);
+  },
   'loops': async () => {
     for (const name of ['ticker', 'digest', 'chatter']) {
       const got = [];
@@ -74,6 +89,43 @@ const tests = {
     setImmediate(() => other.close());
     await assert.rejects(other.done, /closed/);
     other.send(0);
+    await assert.rejects(other.request(0), /ended/);
+  },
+  'a loop with sends, requests and cancels': async () => {
+    const echo = new Module(read('hosts/guest/echo.wasm')), got = [];
+    const loop = new Loop(echo, { fuel: 1e12, workFuel: 1e15, onEmit: (v) => got.push(...v) });
+    loop.send(0);
+    assert(await loop.request(0, text('abc')) > 0);
+    assert.equal(await loop.request(0, new Uint8Array(65537)), -22);
+    await assert.rejects(loop.request(0, 'text'), { code: 'TYPE' });
+    assert.throws(() => loop.send(16), RangeError);
+    for (let k = 0; k < 100; k++) {                      // more than the 32 that may be outstanding: endless, but cancelled
+      const number = await loop.request(1);
+      assert.equal(await loop.cancel(number), 0);
+      assert.notEqual(await loop.cancel(number), 0);
+    }
+    assert(await loop.request(0, text('d')) > 0);
+    while (!got.some((v) => v % 2n ** 32n === 1n)) await new Promise(setImmediate);
+    assert(got.includes(100n) && got.some((v) => v % 2n ** 32n === 3n), `${got}`);
+    const waits = loop.request(1);
+    loop.send(2);                                        // a callback that never ends
+    await new Promise((resolve) => setTimeout(resolve, 20));
+    const late = loop.request(0);
+    loop.close();
+    await assert.rejects(loop.done, /closed/);
+    await assert.rejects(late, /closed/);
+    assert(await waits > 0);
+    const failing = new Loop(echo);
+    failing.send(1);
+    await assert.rejects(failing.done, (e) => e instanceof Stopped && e.ending === 'trap' && e.where.includes('in function'));
+    await assert.rejects(failing.cancel(1), /ended/);
+  },
+  'a loop that an AbortSignal ends': async () => {
+    const echo = new Module(read('hosts/guest/echo.wasm'));
+    await assert.rejects(new Loop(echo, { signal: AbortSignal.abort(new Error('before')) }).done, /before/);
+    const loop = new Loop(echo, { fuel: 1e15, signal: AbortSignal.timeout(50) });
+    loop.send(2);
+    await within(1000, () => assert.rejects(loop.done, { name: 'TimeoutError' }));
   },
   'worker threads': async () => {
     const code = `const { Module } = require(${JSON.stringify(__dirname)}); const m = new Module(new Uint8Array(require('worker_threads').workerData));
@@ -81,9 +133,9 @@ const tests = {
     const all = await Promise.all(Array.from({ length: 4 }, () => new Promise((resolve, reject) => new Worker(code, { eval: true, workerData: bytes }).on('message', resolve).on('error', reject))));
     assert.deepEqual(all, Array(4).fill(['a-b', 162n]));
     const ended = new Worker(`const { Module } = require(${JSON.stringify(__dirname)}); const m = new Module(new Uint8Array(require('worker_threads').workerData));
-      for (let i = 0; i < 4; i++) m.work(1, undefined, { fuel: 1e9 }).catch(() => {}); require('worker_threads').parentPort.postMessage(1);`, { eval: true, workerData: bytes });
+      for (let i = 0; i < 4; i++) m.work(1, undefined, { fuel: 1e15 }).catch(() => {}); require('worker_threads').parentPort.postMessage(1);`, { eval: true, workerData: bytes });
     await new Promise((resolve) => ended.on('message', resolve));
-    await ended.terminate();                             // it waits for what runs there, at most its fuel
+    await within(3000, () => ended.terminate());         // what runs there ends
   },
   'an exit beside endless work': async () => {
     const code = `const { Module } = require(${JSON.stringify(__dirname)}); const m = new Module(require('fs').readFileSync(${JSON.stringify(path.join(__dirname, '../guest/rules.wasm'))}));

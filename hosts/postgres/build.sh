@@ -8,5 +8,5 @@ cp wasmloop_pg.c wasmloop.control wasmloop--0.1.sql Makefile out
 cp ../host.h out
 sed -i 's|"../host.h"|"host.h"|' out/wasmloop_pg.c
 cp -r "$top/capi/include" out
-cp "$top/dist/libwasmloop.a" out/lib
+cp "${WASMLOOP_FOLDER:-$top/dist}/libwasmloop.a" out/lib
 make -s -C out with_llvm=no COPT=-Werror

@@ -1,9 +1,9 @@
-/* LANGUAGE wasmloop: functions of WebAssembly modules that are kept in a table, within fuel, depth and statement_timeout.
+/* LANGUAGE wasmloop: functions of WebAssembly modules, within fuel, depth and statement_timeout.
  *
  *     CREATE EXTENSION wasmloop;
- *     INSERT INTO wasmloop.module VALUES ('rules', pg_read_binary_file('rules.wasm'));
- *     CREATE FUNCTION score(bigint) RETURNS bigint LANGUAGE wasmloop IMMUTABLE STRICT AS 'rules.score';
- *     CREATE FUNCTION slug(text) RETURNS text LANGUAGE wasmloop IMMUTABLE STRICT AS 'rules.slug';     -- f(text, size, into, room)
+ *     CREATE FUNCTION score(bigint) RETURNS bigint LANGUAGE wasmloop IMMUTABLE STRICT AS '\x0061736d..';           -- a module's bytes
+ *     INSERT INTO wasmloop.module VALUES ('rules', pg_read_binary_file('rules.wasm'));                            -- one that functions share
+ *     CREATE FUNCTION slug(text) RETURNS text LANGUAGE wasmloop IMMUTABLE STRICT AS 'rules.slug';                 -- f(text, size, into, room)
  *
  * No call of the library raises an error or is left by one: errors are raised between calls, and callbacks of memory contexts drop what the library
  * holds. A guest cannot run SQL, so a call site is never entered twice. */
@@ -17,6 +17,7 @@
 #include "commands/trigger.h"
 #include "commands/event_trigger.h"
 #include "fmgr.h"
+#include "funcapi.h"
 #include "mb/pg_wchar.h"
 #include "miscadmin.h"
 #include "utils/builtins.h"
@@ -30,20 +31,27 @@
 
 PG_MODULE_MAGIC;
 
+#define FAIL_AND(state, more, ...) ereport(ERROR, errcode(ERRCODE_##state), more, errmsg("wasmloop: " __VA_ARGS__))
+#define FAIL(state, ...) ereport(ERROR, errcode(ERRCODE_##state), errmsg("wasmloop: " __VA_ARGS__))
 #define SLICE 100000
-#define ROOM 1024                   /* by how much a result may be longer than the argument */
+#define ROOM 1024                   /* bytes of a result beyond those of the argument */
+#define ROWS 32768                  /* the same of a set */
+#define SPARE 32                    /* modules that a session keeps though no call site has them */
 static int fuel = 1000000, depth = 64, most_instances = 256, instances;
 
-/* A version of a row of wasmloop.module. It lives in a context of its own until it is replaced and no call site has it. */
+/* A version of a row. Two rows of one transaction may stand in one place, so the command tells them apart. */
+typedef struct version { TransactionId xmin; CommandId command; ItemPointerData at; } version;
+
+/* A loaded module: a version of a row of wasmloop.module, or of a function. It lives in a context of its own until it is replaced and no call site has it. */
 typedef struct kept {
     struct kept *next;
     MemoryContext context;
     MemoryContextCallback end;
     wasmloop_handle module;
-    TransactionId xmin;
-    ItemPointerData at;
-    bytea *code;
-    char *name;
+    version version;
+    Oid function;                   /* InvalidOid: a row of wasmloop.module */
+    char *name, *bytes;
+    size_t length;
     int uses;                       /* call sites, and one for the list */
 } kept;
 static kept *all;
@@ -52,14 +60,17 @@ static kept *all;
 typedef struct site {
     MemoryContextCallback end;
     wasmloop_handle instance;
-    bool open, running, ready;
+    bool open, running, ready, nulls, set;
     kept *module;
     char *name;
-    uint64_t number, room;
+    uint64_t number, room, fuel;    /* the fuel of a call, or what a set has left */
     wasmloop_type type;
     int count;
     Oid result, arg[8];
 } site;
+
+/* A call: its arguments, and where the bytes of its result go. */
+typedef struct call { uint64_t args[24]; int n; uint32_t at, room; } call;
 
 static void unuse(kept *k)
 {
@@ -90,108 +101,187 @@ static void site_end(void *at)
 static void must(int status, const char *what)
 {
     if (status == WASMLOOP_MEMORY) ereport(ERROR, errcode(ERRCODE_OUT_OF_MEMORY), errmsg("out of memory"), errdetail("In function %s.", what));
-    if (status != WASMLOOP_OK) ereport(ERROR, errcode(ERRCODE_EXTERNAL_ROUTINE_EXCEPTION), errmsg("wasmloop: %s: %s", what, wasmloop_status_name(status)));
+    if (status != WASMLOOP_OK) FAIL(EXTERNAL_ROUTINE_EXCEPTION, "%s: %s", what, wasmloop_status_name(status));
 }
 
-static void load_bytes(bytea *code, wasmloop_handle *module, const char *name)
+/* ---- Modules ---- */
+
+static void load_bytes(const char *bytes, size_t length, wasmloop_handle *module, const char *name)
 {
     char why[300];
-    int status = host_load(VARDATA_ANY(code), VARSIZE_ANY_EXHDR(code), module, why, sizeof why);
-    if (status == WASMLOOP_REFUSED) ereport(ERROR, errcode(ERRCODE_INVALID_BINARY_REPRESENTATION), errmsg("wasmloop: module %s is rejected", name), errdetail("%s", why));
+    int status = host_load(bytes, length, module, why, sizeof why);
+    if (status == WASMLOOP_REFUSED) FAIL_AND(INVALID_BINARY_REPRESENTATION, errdetail("%s", why), "the module %s is rejected", name);
     must(status, name);
 }
 
-/* The module of a row of wasmloop.module, loaded unless this version of the row already is. It is read as a catalog is: by its index, whatever the
- * search_path and the rights of who calls, with no operator that another could have made. */
-static kept *load(const char *name)
+static version version_of(HeapTuple row)
+{
+    return (version){ HeapTupleHeaderGetRawXmin(row->t_data), HeapTupleHeaderGetRawCommandId(row->t_data), row->t_self };
+}
+
+/* The loaded module of this version. Another version leaves the list; call sites that run it keep it. */
+static kept *find(Oid function, const char *name, version *v)
+{
+    kept **link = &all, *k;
+    while (*link && ((*link)->function != function || strcmp((*link)->name, name))) link = &(*link)->next;
+    k = *link;
+    if (!k || (k->version.xmin == v->xmin && k->version.command == v->command && ItemPointerEquals(&k->version.at, &v->at))) return k;
+    *link = k->next;
+    unuse(k);
+    return NULL;
+}
+
+static kept *keep(Oid function, const char *name, version v, bytea *code)
+{
+    MemoryContext context = AllocSetContextCreate(CurrentMemoryContext, "wasmloop module", ALLOCSET_SMALL_SIZES);
+    kept *k = MemoryContextAlloc(context, sizeof *k);
+    int spare = 0;
+    *k = (kept){ .context = context, .end = { .func = kept_end, .arg = k }, .version = v, .function = function, .length = VARSIZE_ANY_EXHDR(code), .uses = 1 };
+    k->name = MemoryContextStrdup(context, name);
+    k->bytes = MemoryContextAlloc(context, k->length + 1);
+    memcpy(k->bytes, VARDATA_ANY(code), k->length);
+    MemoryContextRegisterResetCallback(context, &k->end);
+    load_bytes(k->bytes, k->length, &k->module, name);
+    MemoryContextSetParent(context, TopMemoryContext);      /* from here on nothing fails */
+    k->next = all;
+    all = k;
+    for (kept **link = &all; *link; ) {
+        kept *old = *link;
+        if (old->uses > 1 || ++spare <= SPARE) { link = &old->next; continue; }
+        *link = old->next;
+        unuse(old);
+    }
+    return k;
+}
+
+/* The module of a row of wasmloop.module. It is read as a catalog is: by its index, whatever the search_path and the rights of who calls, with no operator
+ * that another could have made. */
+static kept *of_row(const char *name)
 {
     Oid schema = get_namespace_oid("wasmloop", true), table = OidIsValid(schema) ? get_relname_relid("module", schema) : InvalidOid;
-    kept *k = all, **link;
+    kept *k;
     ScanKeyData key;
     Relation relation;
     SysScanDesc scan;
     HeapTuple row;
-    while (k && strcmp(k->name, name)) k = k->next;
-    if (!OidIsValid(table)) ereport(ERROR, errcode(ERRCODE_UNDEFINED_TABLE), errmsg("wasmloop: there is no table wasmloop.module"));
+    version v;
+    if (!OidIsValid(table)) FAIL(UNDEFINED_TABLE, "there is no table wasmloop.module");
     relation = table_open(table, AccessShareLock);
     ScanKeyInit(&key, 1, BTEqualStrategyNumber, F_TEXTEQ, CStringGetTextDatum(name));
     scan = systable_beginscan(relation, RelationGetPrimaryKeyIndex(relation), OidIsValid(RelationGetPrimaryKeyIndex(relation)), NULL, 1, &key);
     row = systable_getnext(scan);
-    if (!HeapTupleIsValid(row)) ereport(ERROR, errcode(ERRCODE_UNDEFINED_OBJECT), errmsg("wasmloop: there is no module \"%s\"", name), errhint("INSERT INTO wasmloop.module."));
-    if (!k || k->xmin != HeapTupleHeaderGetRawXmin(row->t_data) || !ItemPointerEquals(&k->at, &row->t_self)) {
-        MemoryContext context = AllocSetContextCreate(CurrentMemoryContext, "wasmloop module", ALLOCSET_SMALL_SIZES), old = MemoryContextSwitchTo(context);
+    if (!HeapTupleIsValid(row)) FAIL_AND(UNDEFINED_OBJECT, errhint("INSERT INTO wasmloop.module."), "there is no module \"%s\"", name);
+    v = version_of(row);
+    k = find(InvalidOid, name, &v);
+    if (!k) {
         bool null;
-        k = palloc0(sizeof *k);
-        k->context = context;
-        k->name = pstrdup(name);
-        k->xmin = HeapTupleHeaderGetRawXmin(row->t_data);
-        k->at = row->t_self;
-        k->code = DatumGetByteaPCopy(heap_getattr(row, 2, RelationGetDescr(relation), &null));
-        k->uses = 1;
-        k->end = (MemoryContextCallback){ .func = kept_end, .arg = k };
-        MemoryContextRegisterResetCallback(context, &k->end);
-        MemoryContextSwitchTo(old);
-        load_bytes(k->code, &k->module, name);
-        MemoryContextSetParent(context, TopMemoryContext);      /* from here on nothing fails */
-        for (link = &all; *link; link = &(*link)->next)
-            if (!strcmp((*link)->name, name)) {                 /* call sites that run the old version keep it */
-                kept *replaced = *link;
-                *link = replaced->next;
-                unuse(replaced);
-                break;
-            }
-        k->next = all;
-        all = k;
+        Datum code = heap_getattr(row, 2, RelationGetDescr(relation), &null);
+        if (null) FAIL(NULL_VALUE_NOT_ALLOWED, "the module \"%s\" is NULL", name);
+        k = keep(InvalidOid, name, v, DatumGetByteaPP(code));
     }
     systable_endscan(scan);
     table_close(relation, AccessShareLock);
     return k;
 }
 
+/* ---- Call sites ---- */
+
 static bool is_bytes(Oid t) { return t == TEXTOID || t == BYTEAOID; }
 static uint8_t word_of(Oid t) { return t == INT8OID ? 2 : t == BOOLOID || t == INT2OID || t == INT4OID ? 1 : 0; }
+static bool has_room(const site *s) { return s->set || is_bytes(s->result); }
 
-/* Fills a site from pg_proc, and compares the declaration with the export's type. */
+/* Whether the export's next parameters are so many of this type. */
+static bool takes(const site *s, uint64_t *at, int count, uint8_t type)
+{
+    for (int i = 0; i < count; i++)
+        if (type == 0 || s->type.param[(*at)++] != type) return false;
+    return true;
+}
+
+/* Compares the declaration with the export's type. */
+static void fit(site *s)
+{
+    wasmloop_handle *module = &s->module->module;
+    wasmloop_type room;
+    uint64_t at = 0;
+    int texts = 0;
+    bool fits = !s->nulls || takes(s, &at, 1, 1);
+    for (int i = 0; fits && i < s->count; i++) {
+        texts += is_bytes(s->arg[i]);
+        if (is_bytes(s->arg[i]) ? !takes(s, &at, 2, 1) : !takes(s, &at, 1, word_of(s->arg[i])))
+            FAIL(DATATYPE_MISMATCH, "argument %d of %s has another type", i + 1, s->name);
+    }
+    if (has_room(s)) fits = fits && takes(s, &at, s->set ? 3 : 2, 1);
+    fits = fits && at == s->type.params && s->type.results == 1 && (is_bytes(s->result) || word_of(s->result)) && s->type.result[0] == (has_room(s) ? 1 : word_of(s->result));
+    if (!fits) FAIL(DATATYPE_MISMATCH, "%s has another number of arguments, or another result", s->name);
+    if (texts > 1) FAIL(FEATURE_NOT_SUPPORTED, "only one argument may be text or bytea");
+    if ((texts || has_room(s)) && (wasmloop_function(module, "room", &room) != WASMLOOP_OK || room.params != 1 || room.param[0] != 1 || room.results != 1
+        || room.result[0] != 1 || wasmloop_export_number(module, "room", &s->room) != WASMLOOP_OK))
+        FAIL(UNDEFINED_FUNCTION, "the module of %s exports no room(i32) -> i32 for text, bytea and sets", s->name);
+}
+
+/* The module and the export that a function's text names: 'module.export', or '[export]\x..', the bytes of a module. Without an export's name it is the
+ * function's. */
+static kept *named(Form_pg_proc proc, version v, char *source, char **export)
+{
+    char *bytes = strstr(source, "\\x0061736d"), *dot = strrchr(source, '.');
+    kept *k;
+    if (!bytes) {
+        if (!dot) FAIL(SYNTAX_ERROR, "expected 'module.export' or a module's bytes, found '%.100s'", source);
+        *dot = 0;
+        *export = dot + 1;
+        return of_row(source);
+    }
+    *export = bytes == source ? pstrdup(NameStr(proc->proname)) : pnstrdup(source, bytes - source);
+    k = find(proc->oid, "", &v);
+    return k ? k : keep(proc->oid, "", v, DatumGetByteaPP(DirectFunctionCall1(byteain, CStringGetDatum(bytes))));
+}
+
+/* Fills a site from pg_proc. Behind the names stands ' nulls' if the export is told of NULL arguments. */
 static void resolve(site *s, Oid function, MemoryContext context)
 {
     HeapTuple tuple = SearchSysCache1(PROCOID, ObjectIdGetDatum(function));
     Form_pg_proc proc;
-    bool null, plain, fits;
-    char *source, *dot;
-    wasmloop_type room;
-    uint64_t want = 0;
-    int texts = 0;
+    bool null;
+    char *source, *word;
     if (!HeapTupleIsValid(tuple)) elog(ERROR, "cache lookup failed for function %u", function);
     proc = (Form_pg_proc)GETSTRUCT(tuple);
     source = TextDatumGetCString(SysCacheGetAttr(PROCOID, tuple, Anum_pg_proc_prosrc, &null));
+    word = strrchr(source, ' ');
     s->count = proc->pronargs;
     s->result = proc->prorettype;
-    plain = proc->prokind == PROKIND_FUNCTION && !proc->proretset && s->count <= 8;
-    for (int i = 0; plain && i < s->count; i++) s->arg[i] = proc->proargtypes.values[i];
+    s->set = proc->proretset;
+    if (proc->prokind != PROKIND_FUNCTION || s->count > 8) FAIL(FEATURE_NOT_SUPPORTED, "only functions of at most 8 arguments are supported");
+    for (int i = 0; i < s->count; i++) s->arg[i] = proc->proargtypes.values[i];
+    s->nulls = word && !strcmp(word, " nulls");
+    if (s->nulls) *word = 0;
+    s->module = named(proc, version_of(tuple), source, &s->name);
     ReleaseSysCache(tuple);
-    if (!plain) ereport(ERROR, errcode(ERRCODE_FEATURE_NOT_SUPPORTED), errmsg("wasmloop: only functions of at most 8 arguments with one result are supported"));
-    dot = strrchr(source, '.');
-    if (!dot) ereport(ERROR, errcode(ERRCODE_SYNTAX_ERROR), errmsg("wasmloop: expected 'module.export', found '%s'", source));
-    *dot = 0;
-    s->name = MemoryContextStrdup(context, dot + 1);
-    s->module = load(source);
     s->module->uses++;
+    s->name = MemoryContextStrdup(context, s->name);
     if (wasmloop_function(&s->module->module, s->name, &s->type) != WASMLOOP_OK || wasmloop_export_number(&s->module->module, s->name, &s->number) != WASMLOOP_OK)
-        ereport(ERROR, errcode(ERRCODE_UNDEFINED_FUNCTION), errmsg("wasmloop: module \"%s\" exports no function \"%s\"", source, s->name));
-    for (int i = 0; i < s->count; i++)
-        if (is_bytes(s->arg[i]) && s->type.param[want] == 1 && s->type.param[want + 1] == 1) want += 2, texts++;
-        else if (word_of(s->arg[i]) && s->type.param[want] == word_of(s->arg[i])) want++;
-        else ereport(ERROR, errcode(ERRCODE_DATATYPE_MISMATCH), errmsg("wasmloop: argument %d of %s has another type", i + 1, s->name));
-    fits = s->type.results == 1 && s->type.result[0] == (is_bytes(s->result) ? 1 : word_of(s->result));
-    if (is_bytes(s->result)) fits = fits && s->type.param[want] == 1 && s->type.param[want + 1] == 1, want += 2;
-    if (want != s->type.params || !fits)
-        ereport(ERROR, errcode(ERRCODE_DATATYPE_MISMATCH), errmsg("wasmloop: %s has another number of arguments, or another result", s->name));
-    if (texts > 1) ereport(ERROR, errcode(ERRCODE_FEATURE_NOT_SUPPORTED), errmsg("wasmloop: only one argument may be text or bytea"));
-    if ((texts || is_bytes(s->result)) && (wasmloop_function(&s->module->module, "room", &room) != WASMLOOP_OK || room.params != 1 || room.param[0] != 1
-        || room.results != 1 || room.result[0] != 1 || wasmloop_export_number(&s->module->module, "room", &s->room) != WASMLOOP_OK))
-        ereport(ERROR, errcode(ERRCODE_UNDEFINED_FUNCTION), errmsg("wasmloop: module \"%s\" exports no room(i32) -> i32 for text", source));
+        FAIL(UNDEFINED_FUNCTION, "the module exports no function \"%s\"", s->name);
+    fit(s);
     s->ready = true;
 }
+
+/* The site of a function that is called; it is made by the first call. */
+static site *site_of(FmgrInfo *function)
+{
+    site *s = function->fn_extra;
+    if (!s) {
+        s = MemoryContextAlloc(function->fn_mcxt, sizeof *s);
+        *s = (site){ .end = { .func = site_end, .arg = s } };
+        MemoryContextRegisterResetCallback(function->fn_mcxt, &s->end);
+        function->fn_extra = s;
+    }
+    if (s->ready) return s;
+    site_end(s);                    /* of a first call that failed */
+    resolve(s, function->fn_oid, function->fn_mcxt);
+    return s;
+}
+
+/* ---- Calls ---- */
 
 static int state_of(const wasmloop_ended *e)
 {
@@ -204,10 +294,10 @@ static int state_of(const wasmloop_ended *e)
  * does: by a longjmp out of CHECK_FOR_INTERRUPTS, which leaves the instance in the call. The next call of the site makes a new one. */
 static void run(site *s, const char *name, uint64_t number, const uint64_t *args, int n, wasmloop_ended *ended)
 {
-    wasmloop_call_limits limits = { fuel, depth, 0 };
+    wasmloop_call_limits limits = { s->fuel, depth, 0 };
     char place[700];
     uint32_t over = 0;
-    if (fuel <= HOST_AT_ONCE)
+    if (s->fuel <= HOST_AT_ONCE)
         must(wasmloop_call_at(&s->instance, number, args, n, &limits, ended), name);
     else {
         must(wasmloop_call_begin(&s->instance, name, args, n, &limits), name);
@@ -221,7 +311,7 @@ static void run(site *s, const char *name, uint64_t number, const uint64_t *args
     }
     CHECK_FOR_INTERRUPTS();
     if (ended->ending == WASMLOOP_RETURN) return;
-    host_ended(VARDATA(s->module->code), VARSIZE(s->module->code) - VARHDRSZ, &s->instance, ended, place, sizeof place);
+    host_ended(s->module->bytes, s->module->length, &s->instance, ended, place, sizeof place);
     ereport(ERROR, errcode(state_of(ended)), errmsg("wasmloop: %s: %s", name, host_why(ended->ending, ended->trap)), errdetail("%s", place));
 }
 
@@ -231,9 +321,10 @@ static void open_instance(site *s)
     wasmloop_ended ended;
     int status;
     if (s->running) close_instance(s);
+    s->fuel = fuel;
     if (s->open) return;
     if (instances >= most_instances)
-        ereport(ERROR, errcode(ERRCODE_CONFIGURATION_LIMIT_EXCEEDED), errmsg("wasmloop: a session has at most %d call sites at a time", most_instances), errhint("wasmloop.instances"));
+        FAIL_AND(CONFIGURATION_LIMIT_EXCEEDED, errhint("wasmloop.instances"), "a session has at most %d call sites at a time", most_instances);
     status = wasmloop_instance(&s->module->module, &limits, &s->instance, &ended);
     if (status == WASMLOOP_NOT_STARTED) ereport(ERROR, errcode(state_of(&ended)), errmsg("wasmloop: the start function: %s", host_why(ended.ending, ended.trap)));
     must(status, s->name);
@@ -241,80 +332,150 @@ static void open_instance(site *s)
     instances++;
 }
 
+/* Where the guest has room for so many bytes. */
+static uint32_t room_for(site *s, uint64_t size)
+{
+    wasmloop_ended ended;
+    run(s, "room", s->room, &size, 1, &ended);          /* below 2^32: text has at most 1 GiB */
+    if (!ended.result[0]) FAIL(PROGRAM_LIMIT_EXCEEDED, "%s has no room for " UINT64_FORMAT " bytes", s->name, size);
+    return (uint32_t)ended.result[0];
+}
+
+/* Writes a text into the guest's memory, with the room for the result behind it. */
+static void pass_bytes(site *s, call *c, bytea *bytes)
+{
+    uint32_t size = VARSIZE_ANY_EXHDR(bytes), at;
+    c->room += size;
+    at = room_for(s, (uint64_t)size + (has_room(s) ? c->room : 0));
+    if (wasmloop_write(&s->instance, at, (uint8_t *)VARDATA_ANY(bytes), size) != WASMLOOP_OK)
+        FAIL(EXTERNAL_ROUTINE_INVOCATION_EXCEPTION, "the room of %s is outside its memory", s->name);
+    c->args[c->n++] = at;
+    c->args[c->n++] = size;
+    c->at = at + size;
+}
+
+/* The arguments of a call. */
+static void pass(site *s, FunctionCallInfo fcinfo, call *c)
+{
+    *c = (call){ .n = s->nulls, .room = s->set ? ROWS : ROOM };
+    for (int i = 0; i < s->count; i++) {
+        Datum d = PG_GETARG_DATUM(i);
+        if (PG_ARGISNULL(i)) {
+            c->args[0] |= 1 << i;
+            c->n += is_bytes(s->arg[i]) ? 2 : 1;
+        } else switch (s->arg[i]) {
+        case BOOLOID: c->args[c->n++] = DatumGetBool(d); break;
+        case INT2OID: c->args[c->n++] = (uint32_t)(int32_t)DatumGetInt16(d); break;
+        case INT4OID: c->args[c->n++] = (uint32_t)DatumGetInt32(d); break;
+        case INT8OID: c->args[c->n++] = (uint64_t)DatumGetInt64(d); break;
+        default: pass_bytes(s, c, DatumGetByteaPP(d));
+        }
+    }
+    if (!has_room(s)) return;
+    if (!c->at) c->at = room_for(s, c->room);
+    c->args[c->n++] = c->at;
+    c->args[c->n++] = c->room;
+    c->n += s->set;
+}
+
+/* Runs a call that writes its result, and reads that into a block of the room's size behind a header: how many bytes; -1 for NULL. */
+static int32_t written(site *s, const call *c, bytea *block)
+{
+    wasmloop_ended ended;
+    int32_t length;
+    run(s, s->name, s->number, c->args, c->n, &ended);
+    length = (int32_t)ended.result[0];
+    if (s->set) s->fuel -= ended.used;
+    if (length == -1 && s->nulls && !s->set) return -1;
+    if (length < 0 || (uint32_t)length > c->room) FAIL(EXTERNAL_ROUTINE_INVOCATION_EXCEPTION, "%s returned %d, which is no length up to %u", s->name, length, c->room);
+    if (wasmloop_read(&s->instance, c->at, (uint8_t *)VARDATA(block), length) != WASMLOOP_OK)
+        FAIL(EXTERNAL_ROUTINE_INVOCATION_EXCEPTION, "the result of %s is outside its memory", s->name);
+    return length;
+}
+
+/* A result of bytes that are read already, behind room for a header. */
+static Datum bytes_datum(const site *s, bytea *bytes, uint32_t length)
+{
+    SET_VARSIZE(bytes, length + VARHDRSZ);
+    if (s->result == TEXTOID) pg_verifymbstr(VARDATA(bytes), length, false);
+    return PointerGetDatum(bytes);
+}
+
+static Datum word_datum(const site *s, uint64_t x)
+{
+    switch (s->result) {
+    case BOOLOID: return BoolGetDatum((uint32_t)x != 0);
+    case INT2OID:
+        if ((int32_t)x != (int16_t)x) FAIL(NUMERIC_VALUE_OUT_OF_RANGE, "%s returned %d: smallint out of range", s->name, (int32_t)x);
+        return Int16GetDatum((int16_t)x);
+    case INT4OID: return Int32GetDatum((int32_t)x);
+    default: return Int64GetDatum((int64_t)x);
+    }
+}
+
+/* Takes a row from the front of a set's bytes: numbers as they stand in a guest's memory; text behind its length, 2^32 - 1 for NULL. */
+static Datum row_of(const site *s, const char **at, const char *end, bool *null)
+{
+    uint64_t head = 0;
+    int size = word_of(s->result) == 2 ? 8 : 4;
+    bytea *bytes;
+    if (end - *at < size) FAIL(EXTERNAL_ROUTINE_INVOCATION_EXCEPTION, "%s returned a row that is cut", s->name);
+    for (int i = 0; i < size; i++) head |= (uint64_t)(uint8_t)*(*at)++ << 8 * i;
+    *null = is_bytes(s->result) && head == UINT32_MAX;
+    if (*null || !is_bytes(s->result)) return word_datum(s, head);
+    if (head > (uint64_t)(end - *at)) FAIL(EXTERNAL_ROUTINE_INVOCATION_EXCEPTION, "%s returned a row that is cut", s->name);
+    bytes = palloc(head + VARHDRSZ);
+    memcpy(VARDATA(bytes), *at, head);
+    *at += head;
+    return bytes_datum(s, bytes, head);
+}
+
+/* The rows of a set: the export is called with the number of rows so far, until it writes none. All its calls have the fuel of one; a row takes a unit too. */
+static void rows(site *s, call *c, ReturnSetInfo *set, bytea *block)
+{
+    MemoryContext row = AllocSetContextCreate(CurrentMemoryContext, "wasmloop row", ALLOCSET_SMALL_SIZES), old = MemoryContextSwitchTo(row);
+    uint64_t count = 0;
+    int32_t length;
+    while ((length = written(s, c, block)) > 0) {
+        for (const char *at = VARDATA(block), *end = at + length; at < end; count++) {
+            bool null;
+            Datum value = row_of(s, &at, end, &null);
+            tuplestore_putvalues(set->setResult, set->setDesc, &value, &null);
+            MemoryContextReset(row);
+            if (s->fuel) s->fuel--;
+        }
+        if (count > UINT32_MAX) FAIL(PROGRAM_LIMIT_EXCEEDED, "%s returned more than 2^32 rows", s->name);
+        c->args[c->n - 1] = count;
+    }
+    MemoryContextSwitchTo(old);
+    MemoryContextDelete(row);
+}
+
 PG_FUNCTION_INFO_V1(wasmloop_handler);
 Datum wasmloop_handler(PG_FUNCTION_ARGS)
 {
-    site *s = fcinfo->flinfo->fn_extra;
+    site *s;
+    call c;
     wasmloop_ended ended;
-    uint64_t args[20], asked;
-    uint32_t at = 0, most = ROOM;
-    int n = 0;
+    bytea *block;
+    int32_t length;
     check_stack_depth();
-    if (CALLED_AS_TRIGGER(fcinfo) || CALLED_AS_EVENT_TRIGGER(fcinfo)) ereport(ERROR, errcode(ERRCODE_FEATURE_NOT_SUPPORTED), errmsg("wasmloop: no triggers"));
-    if (!s) {
-        s = MemoryContextAllocZero(fcinfo->flinfo->fn_mcxt, sizeof *s);
-        s->end = (MemoryContextCallback){ .func = site_end, .arg = s };
-        MemoryContextRegisterResetCallback(fcinfo->flinfo->fn_mcxt, &s->end);
-        fcinfo->flinfo->fn_extra = s;
-    }
-    if (!s->ready) {
-        site_end(s);                            /* of a first call that failed */
-        resolve(s, fcinfo->flinfo->fn_oid, fcinfo->flinfo->fn_mcxt);
-    }
+    if (CALLED_AS_TRIGGER(fcinfo) || CALLED_AS_EVENT_TRIGGER(fcinfo)) FAIL(FEATURE_NOT_SUPPORTED, "no triggers");
+    s = site_of(fcinfo->flinfo);
+    if (s->set) InitMaterializedSRF(fcinfo, MAT_SRF_USE_EXPECTED_DESC);
     for (int i = 0; i < s->count; i++)
-        if (PG_ARGISNULL(i)) PG_RETURN_NULL();
+        if (PG_ARGISNULL(i) && !s->nulls) PG_RETURN_NULL();
     open_instance(s);
-    for (int i = 0; i < s->count; i++) {
-        Datum d = PG_GETARG_DATUM(i);
-        switch (s->arg[i]) {
-        case BOOLOID: args[n++] = DatumGetBool(d); break;
-        case INT2OID: args[n++] = (uint32_t)(int32_t)DatumGetInt16(d); break;
-        case INT4OID: args[n++] = (uint32_t)DatumGetInt32(d); break;
-        case INT8OID: args[n++] = (uint64_t)DatumGetInt64(d); break;
-        default: {
-            bytea *bytes = DatumGetByteaPP(d);
-            uint32_t size = VARSIZE_ANY_EXHDR(bytes);
-            asked = (uint64_t)size * 2 + ROOM;          /* at most 2 GiB and a little */
-            run(s, "room", s->room, &asked, 1, &ended);
-            at = (uint32_t)ended.result[0];
-            if (!at || wasmloop_write(&s->instance, at, (uint8_t *)VARDATA_ANY(bytes), size) != WASMLOOP_OK)
-                ereport(ERROR, errcode(ERRCODE_PROGRAM_LIMIT_EXCEEDED), errmsg("wasmloop: %s has no room for %u bytes", s->name, size));
-            args[n++] = at;
-            args[n++] = size;
-            at += size;
-            most = size + ROOM;
-        } }
+    pass(s, fcinfo, &c);
+    if (!has_room(s)) {
+        run(s, s->name, s->number, c.args, c.n, &ended);
+        return word_datum(s, ended.result[0]);
     }
-    if (is_bytes(s->result)) {
-        if (!at) {
-            asked = ROOM;
-            run(s, "room", s->room, &asked, 1, &ended);
-            at = (uint32_t)ended.result[0];
-        }
-        args[n++] = at;
-        args[n++] = most;
-    }
-    run(s, s->name, s->number, args, n, &ended);
-    switch (s->result) {
-    case BOOLOID: PG_RETURN_BOOL((uint32_t)ended.result[0] != 0);
-    case INT2OID:
-        if ((int32_t)ended.result[0] != (int16_t)ended.result[0])
-            ereport(ERROR, errcode(ERRCODE_NUMERIC_VALUE_OUT_OF_RANGE), errmsg("wasmloop: %s returned %d: smallint out of range", s->name, (int32_t)ended.result[0]));
-        PG_RETURN_INT16((int16_t)ended.result[0]);
-    case INT4OID: PG_RETURN_INT32((int32_t)ended.result[0]);
-    case INT8OID: PG_RETURN_INT64((int64_t)ended.result[0]);
-    default: {
-        int32_t length = (int32_t)ended.result[0];
-        bytea *reply;
-        if (length < 0 || (uint32_t)length > most)
-            ereport(ERROR, errcode(ERRCODE_EXTERNAL_ROUTINE_INVOCATION_EXCEPTION), errmsg("wasmloop: %s returned %d, which is no length up to %u", s->name, length, most));
-        reply = palloc(length + VARHDRSZ);
-        SET_VARSIZE(reply, length + VARHDRSZ);
-        if (wasmloop_read(&s->instance, at, (uint8_t *)VARDATA(reply), length) != WASMLOOP_OK)
-            ereport(ERROR, errcode(ERRCODE_EXTERNAL_ROUTINE_INVOCATION_EXCEPTION), errmsg("wasmloop: the result of %s is outside its memory", s->name));
-        if (s->result == TEXTOID) pg_verifymbstr(VARDATA(reply), length, false);
-        PG_RETURN_POINTER(reply);
-    } }
+    block = palloc(c.room + VARHDRSZ);
+    if (s->set) rows(s, &c, (ReturnSetInfo *)fcinfo->resultinfo, block);
+    length = s->set ? -1 : written(s, &c, block);
+    if (length < 0) PG_RETURN_NULL();
+    return bytes_datum(s, block, length);
 }
 
 PG_FUNCTION_INFO_V1(wasmloop_validator);
@@ -336,7 +497,8 @@ PG_FUNCTION_INFO_V1(wasmloop_is_module);
 Datum wasmloop_is_module(PG_FUNCTION_ARGS)
 {
     wasmloop_handle module = WASMLOOP_HANDLE_INIT;
-    load_bytes(PG_GETARG_BYTEA_PP(0), &module, "of this row");
+    bytea *bytes = PG_GETARG_BYTEA_PP(0);
+    load_bytes(VARDATA_ANY(bytes), VARSIZE_ANY_EXHDR(bytes), &module, "of this row");
     wasmloop_drop(&module);
     PG_RETURN_BOOL(true);
 }
@@ -347,7 +509,5 @@ void _PG_init(void)
     DefineCustomIntVariable("wasmloop.fuel", "Units of fuel of a call.", NULL, &fuel, 1000000, 1, INT_MAX, PGC_SUSET, 0, NULL, NULL, NULL);
     DefineCustomIntVariable("wasmloop.depth", "Nested calls of a call.", NULL, &depth, 64, 1, 128, PGC_SUSET, 0, NULL, NULL, NULL);
     DefineCustomIntVariable("wasmloop.instances", "Call sites of a session at a time, each with a memory of up to 4 MiB.", NULL, &most_instances, 256, 1, 65536, PGC_SUSET, 0, NULL, NULL, NULL);
-#if PG_VERSION_NUM >= 150000
     MarkGUCPrefixReserved("wasmloop");
-#endif
 }

@@ -62,6 +62,37 @@ async def failing():
             pass
 
 
+async def failing_beside_work():
+    async with Served(echo, **spin) as served:
+        assert await served.request(1) > 0
+        await asyncio.sleep(0.02)                       # it runs on a thread
+        served.send(1)
+        try:
+            async for _ in served.emits():
+                raise AssertionError
+            raise AssertionError("it did not fail")
+        except Failed:
+            pass
+
+
+async def flood():
+    async with Served(echo) as served:
+        served.send(3)
+        await asyncio.sleep(0.3)
+        assert 1024 < len(served._out) <= 1024 + 64, len(served._out)
+        got = served.emits()
+        for _ in range(5000):
+            assert await got.__anext__() == 0
+
+
+async def waste():
+    async with Served(echo, **spin) as served:
+        served.send(4)                                  # it queues endless work, and cancels it, for ever
+        await asyncio.sleep(0.3)
+        assert len(served._jobs) == 32, len(served._jobs)
+        assert await asyncio.get_running_loop().run_in_executor(None, time.monotonic)
+
+
 async def endless():
     began, beats = time.monotonic(), 0
     async with Served(echo, **spin) as served:
@@ -106,7 +137,7 @@ async def many():
 
 
 passed = failed = 0
-for test in (sends_and_requests, wrong_words, failing, endless, cancelled, ended, many):
+for test in (sends_and_requests, wrong_words, failing, failing_beside_work, flood, waste, endless, cancelled, ended, many):
     try:
         asyncio.run(asyncio.wait_for(test(), 30))
         passed += 1

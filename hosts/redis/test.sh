@@ -18,10 +18,9 @@ load() { redis-cli -s "$room/a" -X m wl.load "$1" m "${@:2}" < "${file:-$guest}"
 start a "$port"
 if [ "${1:-}" = bench ]; then       # a processor of its own; the same in Lua beside it
     load rules 100000000 5000 > /dev/null
-    chrt -f -p 10 "${pid[a]}"
-    taskset -p -c 3 "${pid[a]}" > /dev/null
+    taskset -p -c "$last" "${pid[a]}" > /dev/null
     for _ in 1 2 3; do for what in - wl lua; do
-        chrt -f 20 taskset -c 3 timeout 10 python3 "$top/hosts/paced.py" redis "$room/a" $what
+        taskset -c "$last" timeout 10 python3 "$top/hosts/paced.py" redis "$room/a" $what
         sleep 0.5
     done; done
     exit
@@ -50,6 +49,7 @@ for op in 1 4 5; do
 done
 load few 1000000 > /dev/null
 like "$(cli a wl.call few 1 x)" "ERR out of fuel, after 1000000 units, *" "fuel"
+load rules 100000000000 3000 > /dev/null
 for i in 1 2 3 4; do cli a wl.call rules 1 x > "$room/rest$i" & rest[i]=$!; done
 sleep 0.1
 within 1000 "a hundred pings beside four endless calls" redis-cli -s "$room/a" -r 100 ping

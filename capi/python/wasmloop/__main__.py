@@ -1,15 +1,65 @@
-"""Lists the tools of this package."""
+"""The tools of this package by their names, and the program: `python3 -m wasmloop`, and `wasmloop` where the wheel is installed.
+
+    wasmloop                        lists commands and tools
+    wasmloop profile FILE ..        a tool
+    wasmloop work FILE ..           a command of the program
+"""
 
 import importlib
+import os
+import runpy
+import shutil
+import subprocess
+import sys
+import textwrap
 
 TOOLS = "cc", "lower", "lines", "record", "replay", "plugin_record", "log", "profile", "cover", "fuzz", "freeze", "ask", "bind"
 
 
-def main():
+def program():
+    """The program: that of the wheel, else the one on PATH that isn't this command; None if there is none."""
+    mine = os.path.join(os.path.dirname(os.path.abspath(__file__)), "program")
+    found = mine if os.path.isfile(mine) else shutil.which("wasmloop")
+    return found if found and os.path.realpath(found) != os.path.realpath(sys.argv[0]) else None
+
+
+def listed(start="python3 -m wasmloop "):
+    """Prints a line or two for each tool."""
     for name in TOOLS:
         doc = importlib.import_module(f"wasmloop.{name}").__doc__.split("\n\n")[0].replace("\n", " ")
-        print(f"python3 -m wasmloop.{name}\n    {doc}")
+        print(textwrap.fill(f"{start}{name:15}{doc}", 110, subsequent_indent=" " * (len(start) + 15)))
+
+
+def helped():
+    """What the program says of itself, and the tools."""
+    if program():
+        subprocess.run([program(), "help"], check=False)
+        print("\nTools:")
+    sys.stdout.flush()
+    listed("wasmloop ")
+
+
+def command(words):
+    """Runs a tool, or the program in place of this process."""
+    if words[0] in TOOLS:
+        importlib.import_module("wasmloop._tool").START = "wasmloop "
+        sys.argv[1:] = words[1:]
+        runpy.run_module(f"wasmloop.{words[0]}", run_name="__main__")
+        return 0
+    if not program():
+        print(f"wasmloop: {words[0]} is no tool, and the program wasmloop is not there", file=sys.stderr)
+        return 2
+    sys.stdout.flush()
+    os.execv(program(), ["wasmloop", *words])
+
+
+def main():
+    """`wasmloop`, as the wheel installs it."""
+    words = sys.argv[1:]
+    if words in ([], ["help"], ["--help"], ["-h"]):
+        return helped()
+    return command([words[1], "--help"] if words[0] == "help" and words[1] in TOOLS else words)
 
 
 if __name__ == "__main__":
-    main()
+    sys.exit(command(sys.argv[1:]) if sys.argv[1:] else listed())

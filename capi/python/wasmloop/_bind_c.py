@@ -4,10 +4,16 @@ from __future__ import annotations
 
 from typing import List
 
-from ._header import ALLOCATORS, NUMBERS, Arg, Function, Header, Struct, renamed
+from ._header import ALLOCATORS, NUMBERS, Arg, Function, Header, Struct, Taken, renamed
 
+# Words of C++, which may include the header.
+WORDS = """alignas alignof and and_eq asm bitand bitor bool catch char16_t char32_t char8_t class co_await co_return co_yield compl concept consteval
+    constexpr constinit const_cast decltype delete dynamic_cast explicit export false friend mutable namespace new noexcept not not_eq nullptr operator
+    or or_eq private protected public reinterpret_cast requires static_assert static_cast template this thread_local throw true try typeid typename
+    using virtual wchar_t xor xor_eq""".split()
 # Names that the functions use themselves.
-TAKEN = ("plugin", "status", "args", "areas", "result", "result_room")
+OWN = (*WORDS, "plugin", "status", "args", "areas", "result", "result_room", "strlen")
+TAKEN = Taken(WORDS, OWN, (*OWN, "it", "at"))
 
 # Of all such headers; the first that is included brings it.
 HELPERS = r"""#ifndef WASMLOOP_BIND
@@ -145,16 +151,16 @@ def struct_of(it: Struct) -> str:
     fields = " ".join(f"{kind} {name};" for kind, name in it.fields)
     put = "".join(f"    bind_put(at + {at}, (uint64_t)it->{name}, {NUMBERS[kind].bits // 8});\n" for (kind, name), at in zip(it.fields, it.offsets))
     get = "".join(f"    it->{name} = ({kind})bind_get(at + {at}, {NUMBERS[kind].bits // 8});\n" for (kind, name), at in zip(it.fields, it.offsets))
-    return (f"typedef struct {it.name} {{ {fields} }} {it.name};\n\n"
-            f"static inline void {it.name}_put(const {it.name} *it, uint8_t *at)\n{{\n    memset(at, 0, {it.size});\n{put}}}\n\n"
-            f"static inline void {it.name}_get({it.name} *it, const uint8_t *at)\n{{\n{get}}}\n")
+    return (f"typedef struct {it.shown} {{ {fields} }} {it.shown};\n\n"
+            f"static inline void bind_put_{it.name}(const {it.shown} *it, uint8_t *at)\n{{\n    memset(at, 0, {it.size});\n{put}}}\n\n"
+            f"static inline void bind_get_{it.name}({it.shown} *it, const uint8_t *at)\n{{\n{get}}}\n")
 
 
-def declared(arg: Arg) -> str:
+def declared(header: Header, arg: Arg) -> str:
     """An argument of the function in C."""
     if arg.kind == "number":
         return f"{arg.type} {arg.name}"
-    star = f"{'' if arg.out else 'const '}{arg.type} *{arg.name}"
+    star = f"{'' if arg.out else 'const '}{header.structs[arg.type].shown if arg.kind == 'struct' else arg.type} *{arg.name}"
     return f"{star}, uint32_t {arg.name}_{'room' if arg.out else 'size'}" if arg.sized else star
 
 
@@ -185,7 +191,7 @@ def taken(header: Header, it: Function, number: int) -> List[str]:
         count = str(size) if it.result == "void" else f"*result < 0 ? -1 : {size}"
         made += [f"    uint8_t {out.name}_raw[{size}];", "    if (status == WASMLOOP_OK)",
                  f"        status = bind_read(plugin, &areas[{number}], {out.name}_raw, {count});",
-                 "    if (status == WASMLOOP_OK)", f"        {out.type}_get({out.name}, {out.name}_raw);"]
+                 "    if (status == WASMLOOP_OK)", f"        bind_get_{out.type}({out.name}, {out.name}_raw);"]
     elif out:
         made += ["    if (status == WASMLOOP_OK)", f"        status = bind_read(plugin, &areas[{number}], {out.name}, *result);"]
     return made
@@ -194,10 +200,11 @@ def taken(header: Header, it: Function, number: int) -> List[str]:
 def function_of(header: Header, it: Function) -> str:
     areas = it.areas
     result = ["char *result", "uint32_t result_room"] if it.result == "text" else [] if it.result == "void" else [f"{it.result} *result"]
-    lines = [f"/* {it.text} */", f"static inline int {header.name}_{it.name}({', '.join(['bind_plugin *plugin', *map(declared, it.args), *result])})", "{"]
+    args = ", ".join(["bind_plugin *plugin", *(declared(header, arg) for arg in it.args), *result])
+    lines = [f"/* {it.text} */", f"static inline int {header.name}_{it.name}({args})", "{"]
     for arg in areas:
         if arg.kind == "struct" and not arg.out:
-            lines += [f"    uint8_t {arg.name}_raw[{header.structs[arg.type].size}];", f"    {arg.type}_put({arg.name}, {arg.name}_raw);"]
+            lines += [f"    uint8_t {arg.name}_raw[{header.structs[arg.type].size}];", f"    bind_put_{arg.type}({arg.name}, {arg.name}_raw);"]
     status = "WASMLOOP_OK"
     if areas:
         lines += [f"    bind_area areas[] = {{ {', '.join(area(header, arg) for arg in areas)} }};"]
@@ -213,7 +220,7 @@ def function_of(header: Header, it: Function) -> str:
 
 def written(header: Header) -> str:
     """The whole header."""
-    header = renamed(header, TAKEN)
+    header = renamed(header, TAKEN._replace(args=[*OWN, *header.structs]))
     guard = f"{header.name.upper()}_HOST_H"
     rows = ",\n        ".join(f'{{ "{it.name}", "{"".join(str(bits // 32) for bits in it.params)}", "{"".join(str(bits // 32) for bits in it.results)}" }}'
                               for it in header.functions)

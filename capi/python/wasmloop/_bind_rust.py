@@ -4,20 +4,22 @@ from __future__ import annotations
 
 from typing import Tuple
 
-from ._header import ALLOCATORS, NUMBERS, Arg, Function, Header, Struct, free, renamed
+from ._header import ALLOCATORS, NUMBERS, Arg, Function, Header, Struct, Taken, camel, renamed
 
-WORDS = """as async await box break const continue crate dyn else enum extern false fn for if impl in let loop match mod move mut pub ref return self
-    static struct super trait true type unsafe use where while""".split()
-TAKEN = (*WORDS, "told", "places", "made")
+WORDS = """abstract as async await become box break const continue crate do dyn else enum extern false final fn for gen if impl in let loop macro match mod
+    move mut override priv pub ref return self Self static struct super trait true try type typeof unsafe unsized use virtual where while yield""".split()
+# Names that the methods use themselves, and types that the module has or uses.
+TAKEN = Taken(WORDS, (*WORDS, "told", "places", "made", "text", "zero_ended", "TYPES", "None", "Some", "Ok", "Err"),
+              "Self Result Option Vec String From Error Instance Module Failure Typed Bound".split())
 
-HELPERS = r"""#![allow(dead_code)]
+HELPERS = r"""#![allow(dead_code, non_snake_case, non_camel_case_types)]
 
 use wasmloop::{Error, Instance, Module};
 
 /// Why a call failed.
 #[derive(Debug)]
 pub enum Failure {
-    /// The library's reason; `Error::Stopped` if the plug-in did not return.
+    /// The library's reason; `Error::Stopped` if the plug-in did not return, `Error::Late` if its deadline passed.
     Error(Error),
     /// This function has another type in the module.
     Type(&'static str),
@@ -72,6 +74,7 @@ struct Bound {
     instance: Instance,
     fuel: u64,
     depth: u32,
+    deadline: Option<std::time::Duration>,
     allocator: &'static str,
 }
 
@@ -83,11 +86,14 @@ impl Bound {
                 return Err(Failure::Type(name));
             }
         }
-        Ok(Bound { instance: Instance::new(module, fuel, depth)?, fuel, depth, allocator })
+        Ok(Bound { instance: Instance::new(module, fuel, depth)?, fuel, depth, deadline: None, allocator })
     }
 
     fn run(&mut self, name: &str, args: &[u64]) -> Result<u64, Failure> {
-        let ended = self.instance.call(name, args, self.fuel, self.depth)?;
+        let ended = match self.deadline {
+            Some(deadline) => self.instance.call_within(name, args, self.fuel, self.depth, deadline)?,
+            None => self.instance.call(name, args, self.fuel, self.depth)?,
+        };
         Ok(ended.results().first().copied().unwrap_or(0))
     }
 
@@ -111,7 +117,7 @@ impl Bound {
     /// Gives the places back to the plug-in's own allocator, unless the call did not return: then its backtrace stays that of the last call,
     /// and its heap may be in any state.
     fn freed<T>(&mut self, places: &[u32], made: Result<T, Failure>) -> Result<T, Failure> {
-        if self.allocator != "malloc" || matches!(made, Err(Failure::Error(Error::Stopped { .. }))) {
+        if self.allocator != "malloc" || matches!(made, Err(Failure::Error(Error::Stopped { .. } | Error::Late { .. }))) {
             return made;
         }
         let freed = self.run("free", &[places[0].into()]);
@@ -157,10 +163,6 @@ def type_of(name: str) -> str:
     return "bool" if name == "bool" else f"{'i' if number.signed else 'u'}{number.bits}"
 
 
-def camel(name: str) -> str:
-    return "".join(it[:1].upper() + it[1:] for it in name.split("_"))
-
-
 def struct_of(it: Struct) -> str:
     def read(kind: str, at: int) -> str:
         size = NUMBERS[kind].bits // 8
@@ -172,18 +174,18 @@ def struct_of(it: Struct) -> str:
     fields = "".join(f"    pub {name}: {type_of(kind)},\n" for kind, name in it.fields)
     put = "".join(f"        at[{at}..{at + NUMBERS[kind].bits // 8}].copy_from_slice(&{written(kind, name)});\n" for (kind, name), at in places)
     get = "".join(f"            {name}: {read(kind, at)},\n" for (kind, name), at in places)
-    return (f"#[derive(Clone, Copy, Debug, PartialEq, Eq)]\npub struct {camel(it.name)} {{\n{fields}}}\n\n"
-            f"impl {camel(it.name)} {{\n    fn bytes(&self) -> [u8; {it.size}] {{\n        let mut at = [0; {it.size}];\n{put}        at\n    }}\n\n"
-            f"    fn of(at: &[u8]) -> Self {{\n        {camel(it.name)} {{\n{get}        }}\n    }}\n}}\n")
+    return (f"#[derive(Clone, Copy, Debug, PartialEq, Eq)]\npub struct {it.shown} {{\n{fields}}}\n\n"
+            f"impl {it.shown} {{\n    fn bytes(&self) -> [u8; {it.size}] {{\n        let mut at = [0; {it.size}];\n{put}        at\n    }}\n\n"
+            f"    fn of(at: &[u8]) -> Self {{\n        {it.shown} {{\n{get}        }}\n    }}\n}}\n")
 
 
-def declared(arg: Arg) -> str:
+def declared(header: Header, arg: Arg) -> str:
     """An argument of the method; nothing of a struct that it returns."""
     if arg.kind == "number":
         return f"{arg.name}: {type_of(arg.type)}"
     if arg.out:
         return "" if arg.kind == "struct" else f"{arg.name}_room: usize"
-    return f"{arg.name}: &{'str' if arg.kind == 'text' else '[u8]' if arg.kind == 'bytes' else camel(arg.type)}"
+    return f"{arg.name}: &{'str' if arg.kind == 'text' else '[u8]' if arg.kind == 'bytes' else header.structs[arg.type].shown}"
 
 
 def area(header: Header, arg: Arg) -> Tuple[str, str]:
@@ -210,10 +212,10 @@ def result_of(header: Header, it: Function, number: int) -> Tuple[str, str, str]
     """The type that the method returns, what becomes of the number, and of the result."""
     out = it.out
     if out and out.kind == "struct":
-        size = header.structs[out.type].size
+        size, name = header.structs[out.type].size, header.structs[out.type].shown
         count = str(size) if it.result == "void" else f"if (told as i32) < 0 {{ i64::from(told as i32) }} else {{ {size} }}"
         then = f".and_then(|{'_' if it.result == 'void' else 'told'}| self.bound.read(places[{number}], {count}, {size}))"
-        return camel(out.type), then, f"made.map(|it| {camel(out.type)}::of(&it))"
+        return name, then, f"made.map(|it| {name}::of(&it))"
     if out:
         then = f".and_then(|told| self.bound.read(places[{number}], i64::from(told as i32), {out.name}_room))"
         return ("Vec<u8>", then, "made") if out.kind == "bytes" else ("String", then, "made.and_then(text)")
@@ -227,9 +229,9 @@ def result_of(header: Header, it: Function, number: int) -> Tuple[str, str, str]
 def method(header: Header, it: Function) -> str:
     areas = it.areas
     kind, then, last = result_of(header, it, areas.index(it.out) if it.out else 0)
-    args = ", ".join(["&mut self", *filter(None, map(declared, it.args))])
+    args = ", ".join(["&mut self", *filter(None, (declared(header, arg) for arg in it.args))])
     call = f'self.bound.run("{it.name}", &[{words(header, it)}]){then}'
-    head = [f"    /// {it.text}", f"    pub fn {free(it.name, WORDS)}({args}) -> Result<{kind}, Failure> {{"]
+    head = [f"    /// {it.text}", f"    pub fn {it.shown}({args}) -> Result<{kind}, Failure> {{"]
     if not areas:
         return "\n".join([*head, f"        {call}", "    }"])
     placed = f"        let places = self.bound.place(&[{', '.join(area(header, arg)[0] for arg in areas)}])?;"
@@ -241,13 +243,15 @@ def method(header: Header, it: Function) -> str:
 
 def written(header: Header) -> str:
     """The whole module."""
-    header = renamed(header, TAKEN, WORDS)
-    rows = "\n".join(f'    ("{it.name}", &{[bits // 32 for bits in it.params]}, &{[bits // 32 for bits in it.results]}),' for it in header.functions)
     name = camel(header.name)
+    header = renamed(header, TAKEN._replace(types=[*TAKEN.types, name]), camel)
+    rows = "\n".join(f'    ("{it.name}", &{[bits // 32 for bits in it.params]}, &{[bits // 32 for bits in it.results]}),' for it in header.functions)
     head = (f"const TYPES: &[Typed] = &[\n{rows}\n];\n\n/// An instance with typed calls.\npub struct {name} {{\n    bound: Bound,\n}}\n\nimpl {name} {{\n"
             "    /// Creates an instance, if each function has its type in the module. `fuel` and `depth` are each call's limits.\n"
             "    pub fn new(module: &Module, fuel: u64, depth: u32) -> Result<Self, Failure> {\n"
             f"        Bound::new(module, TYPES, \"{header.allocator}\", fuel, depth).map(|bound| Self {{ bound }})\n    }}\n\n"
+            "    /// How long each call may take, from now on.\n"
+            "    pub fn set_deadline(&mut self, deadline: Option<std::time::Duration>) {\n        self.bound.deadline = deadline;\n    }\n\n"
             "    /// The instance: its memory, and the backtrace of the last call.\n"
             "    pub fn instance(&mut self) -> &mut Instance {\n        &mut self.bound.instance\n    }\n")
     methods = "\n\n".join(method(header, it) for it in header.functions if it.name not in ALLOCATORS)

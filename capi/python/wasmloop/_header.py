@@ -38,6 +38,7 @@ NUMBERS = {"int8_t": Number(8, "b"), "int16_t": Number(16, "h"), "int32_t": Numb
 class Struct(NamedTuple):
     name: str
     fields: List[Tuple[str, str]]                       # of each its type and its name
+    shown: str = ""                                     # its name in the language that is written
 
     @property
     def format(self) -> str:
@@ -78,6 +79,7 @@ class Function(NamedTuple):
     result: str                                         # a number, void, or text
     args: List[Arg]
     text: str                                           # as declared
+    shown: str = ""                                     # its name in the language that is written
 
     @property
     def out(self) -> Optional[Arg]:
@@ -114,7 +116,7 @@ class Header(NamedTuple):
 ALLOCATORS = {"room": Function("room", "size_t", [Arg("number", "uint32_t", "size")], "void *room(uint32_t size)"),
               "malloc": Function("malloc", "size_t", [Arg("number", "size_t", "size")], "void *malloc(size_t size)"),
               "free": Function("free", "void", [Arg("number", "size_t", "at")], "void free(void *at)")}
-RESERVED = "new", "open", "close", "instance", "fuel", "depth"
+RESERVED = "new", "open", "close", "instance", "plugin", "fuel", "depth"
 STRUCT = re.compile(r"(?:typedef\s+)?struct\s*(\w*)\s*\{(.*)\}\s*(\w*)", re.S)
 FUNCTION = re.compile(r"(?:extern\s+)?(?:[A-Z_]+\s*\(\s*\w+\s*\)\s*)?(const\s+char\s*\*|void\s*\*|\w+)\s*\b(\w+)\s*\(([^()]*)\)", re.S)
 ARG = re.compile(r"(const\s+)?(?:struct\s+)?(\w+)(?:\s*(\*)\s*|\s+)(\w+)")
@@ -188,7 +190,7 @@ def read(name: str, text: str) -> Header:
                 structs[made.name] = made
             elif not (found := FUNCTION.fullmatch(told)):
                 raise ValueError("expected a function, or a struct of numbers")
-            elif found[2] in RESERVED:
+            elif found[2] in RESERVED or found[2].startswith("_"):
                 raise ValueError(f"{found[2]} is a name of the classes")
             elif found[2] in ALLOCATORS:
                 allocators.append(found[2])
@@ -207,13 +209,39 @@ def read(name: str, text: str) -> Header:
     return Header(name, structs, functions + kept, allocator)
 
 
-def free(name: str, taken: Iterable[str]) -> str:
-    """A name that a language or a writer does not take."""
-    return f"{name}_" if name in taken else name
+class Taken(NamedTuple):
+    """The names that a language, or what is written in it, has: of fields and functions, of arguments, and of types."""
+
+    words: Iterable[str]
+    args: Iterable[str]
+    types: Iterable[str]
 
 
-def renamed(header: Header, taken: Iterable[str], fields: Iterable[str] = ()) -> Header:
-    """The header, in which no argument has a name of `taken`, and no field one of `fields`."""
-    structs = {name: Struct(it.name, [(kind, free(field, fields)) for kind, field in it.fields]) for name, it in header.structs.items()}
-    return header._replace(structs=structs, functions=[it._replace(args=[arg._replace(name=free(arg.name, taken)) for arg in it.args])
-                                                       for it in header.functions])
+def camel(name: str) -> str:
+    """The name of a type, as Python and Rust write it."""
+    return "".join(it[:1].upper() + it[1:] for it in name.split("_")) or "It"
+
+
+def apart(names: Iterable[str], taken: Iterable[str], more: Tuple[str, ...] = ()) -> List[str]:
+    """The names, with a `_` behind where one is taken or was met. None begins with `_`, and none is another one with a word of `more` behind."""
+    used, found = set(taken), []
+    for name in names:
+        name = name if name.strip("_") and name[0] != "_" else f"it{name}"
+        while used.intersection([name, *(name + it for it in more)]):
+            name += "_"
+        used.update([name, *(name + it for it in more)])
+        found.append(name)
+    return found
+
+
+def renamed(header: Header, taken: Taken, shown: Callable[[str], str] = str) -> Header:
+    """The header in the names of a language; `shown` makes that of a type."""
+    structs = {}
+    for it, name in zip(header.structs.values(), apart(map(shown, header.structs), taken.types)):
+        fields = apart([field for _, field in it.fields], taken.words)
+        structs[it.name] = Struct(it.name, [(kind, field) for (kind, _), field in zip(it.fields, fields)], name)
+    functions = []
+    for it, name in zip(header.functions, apart([it.name for it in header.functions], taken.words)):
+        names = apart([arg.name for arg in it.args], taken.args, ("_size", "_room", "_raw"))
+        functions.append(it._replace(args=[arg._replace(name=made) for arg, made in zip(it.args, names)], shown=name))
+    return header._replace(structs=structs, functions=functions)

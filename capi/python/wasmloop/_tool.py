@@ -9,7 +9,8 @@ import os
 import sys
 import warnings
 
-from . import Error, InertImports, Module, OutOfRange, Refused, _lib, _name_of, wasm
+from . import Error, InertImports, Module, OutOfRange, Refused, wasm
+from ._abi import _lib, _name_of
 
 STATUSES = "Status: 0 success; 1 a file or a program is missing; 2 usage error; 3 the module is rejected; 4 the guest did not return"
 
@@ -22,9 +23,12 @@ class Failed(Exception):
         self.status = status
 
 
+START = "python3 -m wasmloop."                          # what a usage line begins with; the command `wasmloop` sets its own
+
+
 def words(tool, doc, more=""):
     """A parser whose help is the docstring of the module."""
-    return argparse.ArgumentParser(prog=f"python3 -m wasmloop.{tool}", description=doc.strip(), epilog=STATUSES + more,
+    return argparse.ArgumentParser(prog=f"{START}{tool}", description=doc.strip(), epilog=STATUSES + more,
                                    formatter_class=argparse.RawDescriptionHelpFormatter)
 
 

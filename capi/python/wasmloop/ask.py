@@ -33,6 +33,7 @@ Answer = Callable[[bytes], Awaitable[Optional[bytes]]]
 
 NO_ANSWER = -2                                          # what `ask` of the guest returns where the host has no answer
 MOST = 65536                                            # bytes of a question
+ASKS = {"ask_next": ([], [32]), "ask_answer": ([32], [32])}  # what a plug-in that asks exports, with its types
 
 
 class Plugin:
@@ -42,8 +43,7 @@ class Plugin:
     def __init__(self, module: Module, answer: Answer, fuel: int = 1_000_000, depth: int = 64):
         self.instance, self.answer, self.used, self._state = module.instance(fuel, depth), answer, 0, ""
         try:
-            module.function("ask_next")
-            self._asks = True
+            self._asks = [module.function(it) for it in ASKS] == list(ASKS.values())
         except Error:
             self._asks = False
 

@@ -2,6 +2,7 @@
 plug-in itself is compiled.
 
     python3 -m wasmloop.bind orders.h           writes orders.py, orders_host.h and orders.rs
+    python3 -m wasmloop.bind orders.wasm        prints the functions of a plug-in without a header, with their types
 
 The header declares functions, and structs of numbers:
 
@@ -27,10 +28,11 @@ import keyword
 import os
 import re
 import struct
-from typing import Any, Dict, List, NamedTuple, Tuple, TypeVar
+from typing import Any, Dict, Iterator, List, NamedTuple, Optional, Tuple, TypeVar
 
-from . import ARGUMENTS, MEMORY, RANGE, Error, Instance, Module, Stopped, _bind_c, _bind_rust, _tool, _whole, ask
-from ._header import ALLOCATORS, NUMBERS, Arg, Function, Header, free, read, renamed
+from . import ARGUMENTS, MEMORY, RANGE, Error, Instance, Module, Stopped, _bind_c, _bind_rust, _tool, ask
+from ._calls import _whole, shown
+from ._header import ALLOCATORS, NUMBERS, Arg, Function, Header, Taken, apart, camel, read, renamed
 
 _Kind = TypeVar("_Kind")
 
@@ -106,11 +108,11 @@ class _Typed:
     TYPES: Dict[str, Tuple[List[int], List[int]]] = {}
     ALLOCATOR = ""
 
-    def __init__(self, module: Module, instance: Instance, fuel: int, depth: int):
+    def __init__(self, module: Module, instance: Instance, fuel: int, depth: int, deadline: Optional[float] = None):
         for name, types in self.TYPES.items():
             if module.function(name) != types:
                 raise Error(ARGUMENTS, f"{name}: expected {types[0]} to {types[1]}, found {module.function(name)[0]} to {module.function(name)[1]}")
-        self.instance, self.fuel, self.depth = instance, fuel, depth
+        self.instance, self.fuel, self.depth, self.deadline = instance, fuel, depth, deadline
 
     def close(self) -> None:
         """Releases the instance."""
@@ -123,7 +125,7 @@ class _Typed:
         self.instance.close()
 
     def _run(self, name: str, *args: int) -> Any:
-        return self.instance.call(name, *args, fuel=self.fuel, depth=self.depth)
+        return self.instance.call(name, *args, fuel=self.fuel, depth=self.depth, deadline=self.deadline)
 
     def _space(self, args: Tuple[Any, ...]) -> int:
         """The address of bytes for all areas; 0 where there is none."""
@@ -177,10 +179,10 @@ class _Typed:
 
 
 class Plugin(_Typed):
-    """An instance with typed calls. `fuel` and `depth` are each call's limits."""
+    """An instance with typed calls. `fuel`, `depth` and `deadline`, in milliseconds, are each call's limits, as Instance.call has them."""
 
-    def __init__(self, module: Module, fuel: int = 10_000_000, depth: int = 64):
-        super().__init__(module, module.instance(fuel, depth), fuel, depth)
+    def __init__(self, module: Module, fuel: int = 10_000_000, depth: int = 64, deadline: Optional[float] = None):
+        super().__init__(module, module.instance(fuel, depth), fuel, depth, deadline)
 
     def _call(self, name: str, *args: Any) -> Tuple[Any, bytes]:
         at = self._space(args)
@@ -214,11 +216,7 @@ class Asking(_Typed):
 
 # ---- The writer of the class ----
 
-TAKEN = (*keyword.kwlist, "self", "bind")
-
-
-def camel(name: str) -> str:
-    return free("".join(it[:1].upper() + it[1:] for it in name.split("_")), keyword.kwlist)
+TAKEN = Taken(keyword.kwlist, (*keyword.kwlist, "self", "bind"), (*keyword.kwlist, "NamedTuple"))
 
 
 def python_arg(header: Header, arg: Arg) -> Tuple[str, str]:
@@ -228,7 +226,7 @@ def python_arg(header: Header, arg: Arg) -> Tuple[str, str]:
         return f"{arg.name}: {'bool' if arg.type == 'bool' else 'int'}", f'bind.number("{arg.name}", {arg.name}, {least}, {most})'
     if arg.kind == "struct":
         form = header.structs[arg.type].format
-        return ("", f'bind.place("{form}")') if arg.out else (f"{arg.name}: {camel(arg.type)}", f'bind.packed("{form}", {arg.name})')
+        return ("", f'bind.place("{form}")') if arg.out else (f"{arg.name}: {header.structs[arg.type].shown}", f'bind.packed("{form}", {arg.name})')
     if arg.out:
         return f"{arg.name}_room: int = 65536", f"bind.room({arg.name}_room)"
     if arg.kind == "bytes":
@@ -240,7 +238,8 @@ def python_result(header: Header, it: Function, call: str) -> Tuple[str, str]:
     """The type that the method returns, and its statement."""
     out = it.out
     if out and out.kind == "struct":
-        return camel(out.type), f'return {camel(out.type)}(*bind.unpacked("{header.structs[out.type].format}", {call}[1]))'
+        made = header.structs[out.type]
+        return made.shown, f'return {made.shown}(*bind.unpacked("{made.format}", {call}[1]))'
     if out:
         return ("bytes", f"return {call}[1]") if out.kind == "bytes" else ("str", f'return bind.decoded("{it.name}", {call}[1])')
     if it.result == "void":
@@ -258,31 +257,44 @@ def python_method(header: Header, it: Function, asks: bool) -> str:
     passed = ", ".join([f'"{it.name}"', *(told for _, told in args)])
     kind, statement = python_result(header, it, f"(await self._call({passed}))" if asks else f"self._call({passed})")
     declared = ", ".join(["self", *(told for told, _ in args if told)])
-    return f'    {"async " * asks}def {free(it.name, keyword.kwlist)}({declared}) -> {kind}:\n        """{it.text}"""\n        {statement}'
+    return f'    {"async " * asks}def {it.shown}({declared}) -> {kind}:\n        """{it.text}"""\n        {statement}'
 
 
 def written(header: Header, asks: bool = False) -> str:
     """The class, and a tuple for each struct."""
-    header, parts = renamed(header, TAKEN, keyword.kwlist), []
+    name, parts = apart([camel(header.name)], keyword.kwlist)[0], []
+    header = renamed(header, TAKEN._replace(types=[*TAKEN.types, name]), camel)
     for it in header.structs.values():
         fields = "\n".join(f"    {name}: {'bool' if kind == 'bool' else 'int'}" for kind, name in it.fields)
-        parts.append(f"class {camel(it.name)}(NamedTuple):\n{fields}")
+        parts.append(f"class {it.shown}(NamedTuple):\n{fields}")
     types = "\n".join(f'        "{it.name}": ({it.params}, {it.results}),' for it in header.functions)
-    head = f'class {camel(header.name)}(bind.{"Asking" if asks else "Plugin"}):\n    TYPES = {{\n{types}\n    }}\n    ALLOCATOR = "{header.allocator}"'
+    head = f'class {name}(bind.{"Asking" if asks else "Plugin"}):\n    TYPES = {{\n{types}\n    }}\n    ALLOCATOR = "{header.allocator}"'
     methods = [python_method(header, it, asks) for it in header.functions if it.name not in ALLOCATORS]
     imports = "from typing import NamedTuple\n\n" * bool(header.structs) + "from wasmloop import bind"
     told = f'"""Typed calls of a plug-in. Written by `python3 -m wasmloop.bind {header.name}.h`."""'
     return f"{told}\n\n{imports}\n\n\n" + "\n\n\n".join([*parts, "\n\n".join([head, *methods])]) + "\n"
 
 
+def callable_in(module: Module) -> Iterator[str]:
+    """A line for each function that a plug-in exports: its name and its types."""
+    for name, _, types in module.exports:
+        if types:
+            params, results = (", ".join(f"i{bits}" for bits in it) for it in types)
+            yield f"{shown(name)}({params}){f' -> {results}' if results else ''}"
+
+
 def main() -> int:
     parser = _tool.words("bind", __doc__)
-    parser.add_argument("header", metavar="HEADER", help="the header of the plug-in")
+    parser.add_argument("header", metavar="HEADER", help="the header of the plug-in; of a module, its functions are printed")
     parser.add_argument("-o", dest="folder", metavar="FOLDER", default=".", help="where the files are written (here)")
     parser.add_argument("--asks", action="store_true", help="the plug-in asks: the class's methods are awaited, as wasmloop.ask says")
     given_words = parser.parse_args()
     name = re.sub(r"\W", "_", os.path.splitext(os.path.basename(given_words.header))[0])
-    header = read(name, _tool.read(given_words.header).decode("utf-8-sig", "replace"))
+    data = _tool.read(given_words.header)
+    if data.startswith(b"\0asm"):
+        print("\n".join(callable_in(_tool.load(data, given_words.header)[0])))
+        return 0
+    header = read(name, data.decode("utf-8-sig", "replace"))
     texts = {f"{name}.py": written(header, given_words.asks), f"{name}_host.h": _bind_c.written(header), f"{name}.rs": _bind_rust.written(header)}
     for file, made in texts.items():
         _tool.write(os.path.join(given_words.folder, file), made)

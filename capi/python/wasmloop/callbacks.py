@@ -5,9 +5,8 @@ which emits its counters at the end of the callback, or where that stops, and ag
 """
 
 from . import NOT_RUN, RAN, _tool, replay, tree, wasm
-from .counts import ENOUGH
 from .emitting import with_emit
-from .runs import Ran
+from .runs import Ran, room_for
 from .tree import NODE, Node, TreeWriter
 from .wasm import ELEMENT, I32, I64, MOST_BYTES, START, number, text, u, vec
 
@@ -172,7 +171,7 @@ class Counting(Working):
 
     def __init__(self, rows, code, target):
         depth = min(rows[0][5] + 3, 128)
-        super().__init__([["loop", "", code.hex(), ENOUGH, SLOWER * rows[0][4] + 1000, depth], *rows[1:]])
+        super().__init__([["loop", "", code.hex(), room_for(rows[0][3]), SLOWER * rows[0][4] + 1000, depth], *rows[1:]])
         self.target, self.values = target, []
 
     def _one_step(self):
@@ -239,7 +238,7 @@ class Callback:
             found += b"".join((it % 2**64).to_bytes(8, "little") for it in values)
         return found[:count]
 
-    def treed(self, most, _most_nodes):
+    def treed(self, most, _most_nodes, _used):
         """How the callback ended with counters, the counts of its blocks, and its nodes."""
         writer = LoopWriter(wasm.Module(self.data), most, self.rows[0][4], self.number, 0)
         counts, nodes, first, values = [0] * len(writer.rows), [], 0, [0] * MOST_EMITS

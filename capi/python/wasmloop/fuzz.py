@@ -15,7 +15,8 @@ import subprocess
 import sys
 import tempfile
 
-from . import _library, _tool, cc, lines, runs, wasm
+from . import _tool, cc, lines, runs, wasm
+from ._abi import _library
 from .counts import ADD, LOAD, STORE, Writer, get
 from .wasm import I32, I64, constant, i32, text, u
 
@@ -120,6 +121,8 @@ def fuzz(given, data, folder, found):
     with subprocess.Popen(command, env=environment, stderr=subprocess.PIPE, encoding="utf-8", errors="replace") as it:
         ran, blocks, last = progress(it.stderr, "all" if given.verbose else sys.stderr.isatty())
     is_found = os.path.isfile(found)
+    if not ran and not is_found:
+        raise _tool.Failed("\n".join(["the fuzzer ran no input:", *last]))
     if it.returncode and not is_found:
         raise _tool.Failed("\n".join([f"the fuzzer failed with status {it.returncode}:", *last]))
     return is_found, ran, blocks

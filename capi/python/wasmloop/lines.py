@@ -17,10 +17,13 @@ import shutil
 import subprocess
 import sys
 import tempfile
+import threading
 
 from . import _tool, runs, wasm
 
 PLACE = re.compile(r"\bat byte (\d+)")
+SECONDS, MOST_BYTES = 60, 64 << 20                      # of the symbolizer, and of what it prints, since the guest's DWARF may say anything
+MOST_STEPS = 30_000_000                                 # of comparing the functions of a module with those of its debug module
 KNOWN = ("llvm-symbolizer", "llvm-addr2line", *(f"llvm-symbolizer-{it}" for it in range(25, 10, -1)))
 
 
@@ -36,9 +39,36 @@ def symbolizer():
     return found
 
 
+def answered(command, given):
+    """What a program prints for a file that it reads. Raises Failed if it fails, or takes too long, or prints too much."""
+    with subprocess.Popen(command, stdin=given, stdout=subprocess.PIPE) as it:
+        late = threading.Timer(SECONDS, it.kill)
+        late.start()
+        said = it.stdout.read(MOST_BYTES + 1)
+        late.cancel()
+        if len(said) > MOST_BYTES:
+            it.kill()
+            raise _tool.Failed(f"{command[0]} printed more than {MOST_BYTES:,} bytes")
+    if it.returncode:
+        raise _tool.Failed(f"{command[0]} failed with status {it.returncode}, or took more than {SECONDS} seconds")
+    return said
+
+
 def spelled(data, ops):
     """Instructions for a comparison: locals and constants with their numbers."""
     return [(op, wasm.number(data, start + 1)[0]) if 0x20 <= op <= 0x22 or op in (0x41, 0x42) else op for start, op, _ in ops]
+
+
+class Comparison(difflib.SequenceMatcher):
+    """A comparison that takes a bounded number of steps: when they are spent, what is left counts as different."""
+
+    def __init__(self, mine, its, steps):
+        super().__init__(None, mine, its, autojunk=False)
+        self.steps = steps
+
+    def find_longest_match(self, alo=0, ahi=None, blo=0, bhi=None):
+        self.steps -= sum(len(self.b2j.get(it, ())) + 1 for it in self.a[alo:ahi]) if self.steps > 0 else 0
+        return super().find_longest_match(alo, ahi, blo, bhi) if self.steps > 0 else difflib.Match(alo, blo, 0)
 
 
 class Lines:
@@ -49,7 +79,7 @@ class Lines:
         if not self.other.custom(".debug_line"):
             raise _tool.Failed(f"{name} has no DWARF: compile with -g, or name the module that it was made from by --debug")
         mine, its = (it.data[slice(*it.places[wasm.CODE])] if it.bodies else b"" for it in (self.module, self.other))
-        self.alike, self.known, self.moves = mine == its, {}, {}
+        self.alike, self.known, self.moves, self.steps = mine == its, {}, {}, MOST_STEPS
         self.starts = [it.start for it in self.module.bodies]
         shift = len(self.other.imported)
         self.named = {name: index - shift for index, name in self.other.names.items() if index >= shift}
@@ -64,7 +94,8 @@ class Lines:
         mine, its = self.module.bodies[defined].ops, self.other.bodies[there].ops
         blocks = [("equal", 0, len(mine), 0, len(its))]
         if [it[1] for it in mine] != [it[1] for it in its]:
-            blocks = difflib.SequenceMatcher(None, spelled(self.module.data, mine), spelled(self.other.data, its), autojunk=False).get_opcodes()
+            compared = Comparison(spelled(self.module.data, mine), spelled(self.other.data, its), self.steps)
+            blocks, self.steps = compared.get_opcodes(), compared.steps
         found = [0] * len(mine)
         for _, a, b, c, d in blocks:
             for k in range(a, b):
@@ -94,19 +125,18 @@ class Lines:
         if asked:
             for place, part in zip(asked, self._ask(asked.values()).split("\n\n")):
                 rows = part.strip().split("\n")
-                frames = [(name, *where.rsplit(":", 2)[:2]) for name, where in zip(rows[::2], rows[1::2])]
+                frames = [(wasm.shown(name), *where.rsplit(":", 2)[:2]) for name, where in zip(rows[::2], rows[1::2])]
                 self.known[place] = [(name, file, int(line)) for name, file, line in frames if file != "??" and line != "0"]
         return [self.known[it] for it in places]
 
     def _ask(self, addresses):
-        with tempfile.NamedTemporaryFile(suffix=".wasm") as file:
+        with tempfile.NamedTemporaryFile(suffix=".wasm") as file, tempfile.TemporaryFile() as asked:
             file.write(self.other.data)
             file.flush()
+            asked.write("".join(f"{it:#x}\n" for it in addresses).encode())
+            asked.seek(0)
             command = [symbolizer(), f"--obj={file.name}", "--inlines", "--functions=short", "--output-style=LLVM", "--demangle"]
-            done = subprocess.run(command, input="".join(f"{it:#x}\n" for it in addresses).encode(), stdout=subprocess.PIPE, check=False)
-        if done.returncode:
-            raise _tool.Failed(f"{command[0]} failed with status {done.returncode}")
-        return done.stdout.decode(errors="replace")
+            return answered(command, asked).decode(errors="replace")
 
     def of(self, byte):
         """FILE:LINE of a byte, with the functions that it was inlined into; empty if there is none."""
@@ -123,7 +153,7 @@ class Lines:
         """The same, and empty if the symbolizer fails: for one who has more to tell than the line."""
         try:
             return self.of(byte)
-        except (_tool.Failed, OSError):
+        except (_tool.Failed, wasm.Malformed, OSError):
             return ""
 
     def told(self, text):
@@ -135,6 +165,13 @@ class Lines:
             return f"{found[0]} [{where}]" if where else found[0]
 
         return PLACE.sub(with_line, text)
+
+    def told_place(self, text):
+        """The same, and the text as it is if the symbolizer fails."""
+        try:
+            return self.told(text)
+        except (_tool.Failed, wasm.Malformed, OSError):
+            return text
 
 
 def wanted(ran, debug):
@@ -167,7 +204,7 @@ def byte_of(module, site):
 
 
 def main():
-    parser = _tool.words("lines", __doc__, "; with a command, the command's status")
+    parser = _tool.words("lines", __doc__, ";\n1 also if a byte has no line; with a command, the command's status")
     parser.add_argument("guest", metavar="GUEST", help="the module that ran")
     parser.add_argument("--debug", metavar="FILE", help="the module with DWARF; default: GUEST")
     parser.add_argument("--byte", metavar="N", type=int, action="append", help="print the line of this byte of GUEST, and read no input")
@@ -181,9 +218,9 @@ def main():
     lines = Lines(ran, _tool.read(given.debug) if given.debug else ran, given.debug or given.guest)
     places = [*(given.byte or []), *(byte_of(lines.module, it) for it in given.site or [])]
     if places:
-        for byte in places:
-            print(lines.of(byte) or "no line")
-        return 0
+        found = [lines.of(byte) for byte in places]
+        print("\n".join(it or "no line" for it in found))
+        return 0 if all(found) else 1
     if not its:
         sys.stdin.reconfigure(errors="replace")
         for line in sys.stdin:

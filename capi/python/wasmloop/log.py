@@ -13,10 +13,10 @@ how many bytes were written (modulo 2^32), and the address of the ring.
 
 import sys
 
-from . import Error, _tool, callbacks, replay, runs, wasm
+from . import RANGE, Error, _tool, callbacks, replay, runs, wasm
 from .counts import Counted, Writer
 
-EXPORT, HEAD = "guest_log_ring", 12
+EXPORT, HEAD, MOST_RING = "guest_log_ring", 12, 1 << 20
 
 
 def address_of(module):
@@ -32,6 +32,8 @@ def lines_in(read, at):
     """The lines of the ring whose head is at this address; `read` takes an address and a length. The first may be cut."""
     head = read(at, HEAD)
     size, written, ring = (int.from_bytes(head[k:k + 4], "little") for k in (0, 4, 8))
+    if not 0 < size <= MOST_RING:
+        raise Error(RANGE, f"the ring of {EXPORT} has {size} bytes, expected 1 to {MOST_RING}")
     data = read(ring, size) if written > size else read(ring, written)
     if written > size:
         cut = written % size
@@ -40,12 +42,12 @@ def lines_in(read, at):
 
 
 def read(instance):
-    """The lines that the guest of an instance has logged; none if it exports no guest_log_ring."""
+    """The lines that the guest of an instance has logged; none if it exports no guest_log_ring. Raises Error if it has no ring there."""
     try:
-        at = instance.call(EXPORT) % 2**32
-    except Error:
+        at = instance.call(EXPORT)
+    except (Error, TypeError):                          # (none, or one that takes arguments)
         return []
-    return lines_in(lambda start, count: instance.memory[start:start + count], at)
+    return lines_in(lambda start, count: instance.memory[start:start + count], at % 2**32) if isinstance(at, int) else []
 
 
 def of_callback(run):
@@ -59,6 +61,8 @@ def of_callback(run):
 def of_request(run):
     """The lines of a request, and the sentence on it if it stopped."""
     counted = Counted(run.data, (Writer.NONE,))
+    if (EXPORT, 0) not in [(name, kind) for name, kind, _ in counted.writer.module.exports]:
+        raise _tool.Failed(f"the guest exports no {EXPORT}: write GUEST_LOG(4096); in it")
     with counted.fresh(run.given, run.depth) as it:
         try:
             it.call(run.name, *run.args, fuel=run.fuel, depth=run.depth)
@@ -80,7 +84,8 @@ def main():
     else:
         host, _ = _tool.load(data, given.guest)
         found, told = of_request(runs.of_words(given, data, host, [_tool.read(given.request) if given.request else b""])[0])
-    print("\n".join(found)) if found else None
+    for line in found:
+        print(wasm.shown(line.expandtabs(), MOST_RING))
     if told:
         sys.stdout.flush()
         print(told, file=sys.stderr)

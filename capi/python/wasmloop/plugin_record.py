@@ -20,7 +20,7 @@ import json
 import os
 import sys
 
-from . import Call as PlainCall, Instance as Plain, Memory as PlainMemory, Module, Stopped, _tool, freeze, lines, replay, wasm
+from . import Call as PlainCall, Instance as Plain, Late, Memory as PlainMemory, Module, Stopped, _tool, freeze, lines, replay, wasm
 
 
 class Instance(Plain):
@@ -36,11 +36,11 @@ class Instance(Plain):
     def note(self, *row):
         self._file.write(json.dumps(row, separators=(",", ":")) + "\n")
 
-    def call(self, name, *args, fuel=1_000_000, depth=64):
+    def call(self, name, *args, fuel=1_000_000, depth=64, deadline=None):
         try:
-            told = super().call(name, *args, fuel=fuel, depth=depth)
-        except Stopped:
-            self.note("call", name, args, fuel, depth)
+            told = super().call(name, *args, fuel=fuel, depth=depth, deadline=deadline)
+        except Stopped as why:                          # one that was given up: as a call with just the fuel that it has used
+            self.note("call", name, args, why.used if isinstance(why, Late) else fuel, depth)
             self._file.flush()
             raise
         self.note("call", name, args, fuel, depth)
@@ -50,6 +50,13 @@ class Instance(Plain):
         super().begin(name, *args, fuel=fuel, depth=depth)
         self._begun = [name, args, fuel, depth, 0]
         return _Call(self, name)
+
+    def call_for(self, name, *args, units, fuel=1_000_000, depth=64):
+        ended = super().call_for(name, *args, units=units, fuel=fuel, depth=depth)._ended
+        self._begun = [name, args, fuel, depth, units]
+        if ended:
+            self._over(None)
+        return _Call(self, name, ended)
 
     def _over(self, used):
         """A call in slices is written when it is over, or when it is given up: as a call with just the fuel that it has used."""
@@ -75,6 +82,11 @@ class _Call(PlainCall):
         else:
             self._instance._begun[4] += units
         return over
+
+    def stop(self):
+        used = super().stop()
+        self._instance._over(used)
+        return used
 
 
 class _Memory(PlainMemory):

@@ -20,7 +20,11 @@ import sys
 import threading
 import time
 
-from . import ENTERED, FAILED, FOREVER, OVER, RAN, TIMERS, WORK_MEMORY, Loop as Plain, _is_paused, _tool, lines, replay
+from . import ENTERED, FAILED, FOREVER, OVER, RAN, TIMERS, WORK_MEMORY, Loop as Plain, _tool, lines, replay
+from ._errors import _is_paused
+
+
+MOST_VALUES = 1_000_000                                 # that a program emits
 
 
 class Loop(Plain):
@@ -176,8 +180,8 @@ class Workers:
 
 
 def serve(loop, workers, seconds):
-    """Drives a loop until it is over, fails, waits forever or reaches the time limit: "over", "failed", "waiting" or "limit", with the values
-    it emitted and its last step."""
+    """Drives a loop until it is over, fails, waits forever or reaches a limit, of time or of values: "over", "failed", "waiting" or "limit", with
+    the values it emitted and its last step."""
     began, emits = time.monotonic(), []
     while time.monotonic() - began < seconds:
         loop.clock(int((time.monotonic() - began) * 1000))
@@ -188,6 +192,8 @@ def serve(loop, workers, seconds):
         did = turned.did
         if did.what == RAN:
             emits += loop.emits()
+            if len(emits) > MOST_VALUES:
+                return "limit", emits, did
         if did.what == OVER:
             return "over", emits, did
         if did.what == FAILED or did.what == RAN and did.ending:

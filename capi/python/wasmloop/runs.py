@@ -8,6 +8,14 @@ from . import KIND, Error, Module, Stopped, _tool
 from .counts import ENOUGH, Counted, Writer
 
 
+SLOWER, SPARE = 1024, 10_000_000                        # with a call tree, units for each of the guest's, and beside these
+
+
+def room_for(used):
+    """The fuel of a run with a call tree, of a guest that uses so many units: a guest chooses how many siblings each call is looked for among."""
+    return min(SLOWER * used + SPARE, ENOUGH)
+
+
 class Ran(NamedTuple):
     """How a run ended, its result, its reply, its units, and the sentence on one that did not return."""
 
@@ -81,13 +89,14 @@ class Call:
                 answer, ending = None, why.ending
             return Ran(ending, answer, counted.reply(it) if ending == "done" else b"", it.used, None), counted.read(it, before)
 
-    def treed(self, most, most_nodes):
-        """Runs the guest with a counted call tree of so many nodes, up to so many units: how it ended, the counts of its blocks, and its nodes."""
+    def treed(self, most, most_nodes, used):
+        """Runs the guest, which uses so many units, with a counted call tree of so many nodes, up to `most` units: how it ended, the counts of its
+        blocks, and its nodes."""
         from .tree import Blocks, Tree                  # (which imports this module)
-        tree = Tree(self.data, most, most_nodes)
-        ended, (counts, nodes) = self.counted(tree, ENOUGH)
+        tree, fuel = Tree(self.data, most, most_nodes), room_for(used)
+        ended, (counts, nodes) = self.counted(tree, fuel)
         if tree.writer.only:
-            ended, counts = self.counted(Blocks(self.data, most) if most else Counted(self.data), ENOUGH)
+            ended, counts = self.counted(Blocks(self.data, most) if most else Counted(self.data), fuel)
         return ended, counts, nodes
 
     def backtrace(self):

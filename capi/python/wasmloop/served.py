@@ -6,17 +6,23 @@
         async for value in served.emits():              # until the loop is over
             ..
 
-The loop runs in slices between other tasks, its work requests on threads. `emits` raises Failed if a callback has failed, with where. Leaving the
-block ends all: requests that wait get Closed.
+The loop runs in slices between other tasks, its work requests on threads. `emits` raises Failed if a callback has failed, with where. A loop whose
+guest has emitted 1,024 values that nobody took waits until they are taken. Leaving the block ends all: requests that wait get Closed.
 """
 
 import asyncio
+import collections
+import concurrent.futures
 import threading
 import time
 
 from . import DEPTH, ENTERED, FOREVER, OVER, RAN, TRAP, Loop
 
 UNITS, WORK_UNITS = 3_000, 100_000                      # of a slice of a callback, and of a work request
+MOST_EMITTED = 1024                                     # so many values wait to be taken; then the loop waits
+# So much work of a loop is on its way at a time, on so many threads of its own. A guest that queues and cancels endlessly has no more: what it has
+# cancelled runs on.
+MOST_WORK, THREADS = 32, 4
 
 
 class Failed(Exception):
@@ -35,13 +41,16 @@ class Served:
 
     async def __aenter__(self):
         self._loop, self._wake, self._later = Loop(self._module, **self._limits), asyncio.Event(), []
-        self._out, self._jobs, self._began, self._stop = asyncio.Queue(), set(), time.monotonic(), threading.Event()
+        self._out, self._some, self._taken = collections.deque(), asyncio.Event(), asyncio.Event()
+        self._jobs, self._began, self._stop = set(), time.monotonic(), threading.Event()
+        self._pool = concurrent.futures.ThreadPoolExecutor(THREADS)
         self._task = asyncio.create_task(self._serve())
         return self
 
     async def __aexit__(self, *_):
         self._task.cancel()
         await asyncio.gather(self._task, return_exceptions=True)
+        self._pool.shutdown(wait=False)                 # nothing runs there any more
         self._loop.close()
 
     def send(self, number):
@@ -67,10 +76,15 @@ class Served:
 
     async def emits(self):
         """The values that the guest emits, for one task."""
-        while (value := await self._out.get()) is not None:
-            yield value
-        self._out.put_nowait(None)
-        if self._task.done() and not self._task.cancelled():
+        while self._out or not self._closed:
+            if self._out:
+                self._taken.set()
+                yield self._out.popleft()
+            else:
+                self._some.clear()
+                await self._some.wait()
+        await asyncio.wait([self._task])
+        if not self._task.cancelled():
             self._task.result()
 
     def _soon(self, act, answer=None):                  # kept until no callback is paused
@@ -84,10 +98,18 @@ class Served:
             pass
 
     async def _run(self, job):
-        await asyncio.to_thread(self._compute, job)
+        await asyncio.get_running_loop().run_in_executor(self._pool, self._compute, job)
+        self._jobs.discard(asyncio.current_task())
         if not self._stop.is_set():
             self._later.append((lambda: self._loop.accept(job), None))
             self._wake.set()
+
+    async def _emit(self, values):
+        self._out.extend(values)
+        self._some.set()
+        while len(self._out) > MOST_EMITTED:
+            self._taken.clear()
+            await self._taken.wait()
 
     async def _turn(self):
         """Takes turns until the loop enters its timers phase, is over or has failed."""
@@ -98,8 +120,7 @@ class Served:
                 continue
             did = turned.did
             if did.what == RAN:
-                for value in self._loop.emits():
-                    self._out.put_nowait(value)
+                await self._emit(self._loop.emits())
             if did.what != RAN or did.ending:
                 return did.what
 
@@ -124,10 +145,8 @@ class Served:
                     act()
                 self._loop.clock(int((time.monotonic() - self._began) * 1000))
                 what = await self._turn()
-                while job := self._loop.next_job():
-                    task = asyncio.create_task(self._run(job))
-                    self._jobs.add(task)
-                    task.add_done_callback(self._jobs.discard)
+                while len(self._jobs) < MOST_WORK and (job := self._loop.next_job()):
+                    self._jobs.add(asyncio.create_task(self._run(job)))
                 if what == OVER:
                     return
                 if what != ENTERED:
@@ -140,5 +159,5 @@ class Served:
             for _, answer in self._later:
                 if answer and not answer.done():
                     answer.set_exception(Closed("the loop is over"))
-            self._out.put_nowait(None)
+            self._some.set()
             await asyncio.gather(*self._jobs, return_exceptions=True)

@@ -266,7 +266,7 @@ def measured(module, run, ran) -> Measured:
     most = ran.used + sum(map(len, cut)) if sites else 0
     for most_nodes in run.most_nodes:
         try:
-            return checked(module, ran, run.treed(most, most_nodes), sites, cut)
+            return checked(module, ran, run.treed(most, most_nodes, ran.used), sites, cut)
         except Differs as why:
             last = why
     raise last
@@ -303,7 +303,7 @@ def stop_of(module, run, ran):
 def whole(run, ran, inner):
     """The backtrace of a run that stopped, of which the innermost calls are known."""
     finding = Finding(run.data, ran.used + (ran.ending == "spent"))
-    _, (_, nodes) = run.counted(finding, ENOUGH)
+    _, (_, nodes) = run.counted(finding, runs.room_for(ran.used))
     place = (nodes[ROOT].function - finding.writer.nodes) // NODE
     path = path_of(nodes, place) if place > 0 else ()
     sites = inner[:1] + [(function, site) for (_, function), (site, _) in reversed(list(zip(path, path[1:])))]

@@ -11,6 +11,7 @@ FREE = ELSE, END                                        # these cost no fuel
 I32, I64 = 0x7F, 0x7E
 TYPE, IMPORT, FUNCTION, TABLE, MEMORY, GLOBAL, EXPORT, START, ELEMENT, CODE, DATA = range(1, 12)
 PAGE, MOST_PAGES, MOST_BYTES = 65536, 64, 1 << 20       # the host's limits
+MOST_DIGITS, MOST_LETTERS = 10, 200                     # bytes of a number; letters of a name that is shown
 
 # How many numbers follow an opcode; two opcodes, the constants of floats, are followed by bytes.
 NUMBERS = {**dict.fromkeys((BLOCK, LOOP, IF, BR, BR_IF, CALL, MEMORY_SIZE, MEMORY_GROW, 0x12, 0x41, 0x42, *range(0x20, 0x27), 0xD0, 0xD2), 1),
@@ -24,16 +25,21 @@ class Malformed(Exception):
     """The bytes are not a module that this reader knows."""
 
 
+def shown(name, most=MOST_LETTERS):
+    """A text of a guest as a line can hold it: what can't be printed is escaped, of a long one the first letters stand there."""
+    letters = "".join(it if it.isprintable() else it.encode("unicode_escape", "backslashreplace").decode() for it in name[:most])
+    return letters if len(name) <= most else f"{letters}.. and {len(name) - most} more letters"
+
+
 def number(data, at):
     """An unsigned LEB128 number, and its end."""
-    value = shift = 0
-    while True:
-        byte = data[at]
-        at += 1
-        value |= (byte & 127) << shift
-        shift += 7
+    value = 0
+    for place in range(MOST_DIGITS):
+        byte = data[at + place]
+        value |= (byte & 127) << 7 * place
         if byte < 128:
-            return value, at
+            return value, at + place + 1
+    raise Malformed(f"byte {at}: a number in more than {MOST_DIGITS} bytes")
 
 
 def signed(data, at):
@@ -117,7 +123,10 @@ class Body:
 
     @functools.cached_property
     def ops(self):
-        return list(operations(self.data, self.code, self.end))
+        try:
+            return list(operations(self.data, self.code, self.end))
+        except IndexError:
+            raise Malformed(f"byte {self.code}: a function that does not end") from None
 
     @functools.cached_property
     def decoded(self):
@@ -230,7 +239,7 @@ class Module:
     def custom(self, wanted):
         """The start and the end of the contents of a custom section, or None."""
         for kind, start, end in self.sections:
-            if kind == 0:
+            if kind == 0 and start < end:
                 name, at = self._bytes(start)
                 if name == wanted.encode():
                     return at, end
@@ -256,7 +265,7 @@ class Module:
         """The name of a function, by its index without the imports, as wasmloop_stop counts."""
         index = defined + len(self.imported)
         exported = next((name for name, kind, it in self.exports if kind == 0 and it == index), None)
-        return self.names.get(index) or exported or f"function {index}"
+        return shown(self.names.get(index) or exported or f"function {index}")
 
     def export_bytes(self):
         """The bytes of each export, for a new export section."""

@@ -19,6 +19,7 @@ use std::ffi::{CStr, CString};
 use std::fmt;
 use std::os::raw::c_char;
 use std::ptr::{null, null_mut};
+use std::time::{Duration, Instant};
 
 /// The statuses of wasmloop.h, as in `Error::Status` and `Error::State`.
 pub const OK: i32 = 0;
@@ -52,6 +53,12 @@ pub const RETURN: u32 = 0;
 pub const TRAP: u32 = 1;
 pub const DEPTH: u32 = 2;
 pub const SPENT: u32 = 3;
+
+/// What a handle of the library holds; a job, an instance or a loop that is paused has `HOLDS_PAUSED` added.
+const HOLDS_PAUSED: u32 = 16;
+
+/// The units of fuel between two looks at the clock, about a millisecond: how far a run with a deadline may pass it.
+const SLICE: u64 = 100_000;
 
 /// The values of `About::outcome`: how a job ended.
 pub const NOT_RUN: u32 = 0;
@@ -222,6 +229,34 @@ impl Ended {
     fn stopped(&self) -> Error {
         Error::Stopped { ending: self.ending, trap: self.trap, used: self.used }
     }
+
+    /// How the call ended: "out of fuel, after 1,000,000 units".
+    pub fn text(&self) -> String {
+        ended_text(self.ending, self.trap, self.used)
+    }
+}
+
+impl Did {
+    /// How the callback of a step ended: "out of fuel, after 1,000,000 units".
+    pub fn text(&self) -> String {
+        ended_text(self.ending, self.trap, self.used)
+    }
+}
+
+impl About {
+    /// How the job ended, or "not over yet, after 7 units".
+    pub fn text(&self) -> String {
+        written(|into, room, count| unsafe { wasmloop_outcome_text(self.outcome, self.value, self.used, into, room, count) })
+    }
+}
+
+fn ended_text(ending: u32, trap: u32, used: u64) -> String {
+    written(|into, room, count| unsafe { wasmloop_ended_text(ending, trap, used, into, room, count) })
+}
+
+/// A text that the library always has of its own numbers.
+fn written(call: impl FnMut(*mut u8, usize, &mut u64) -> i32) -> String {
+    text(call).ok().flatten().unwrap_or_default()
 }
 
 /// The type of a function. Each parameter and each result is 1 for i32, 2 for i64.
@@ -273,13 +308,25 @@ pub struct Number {
 extern "C" {
     fn wasmloop_version() -> *const c_char;
     fn wasmloop_status_name(status: i32) -> *const c_char;
+    fn wasmloop_status_text(status: i32) -> *const c_char;
+    fn wasmloop_ended_text(ending: u32, trap: u32, used: u64, into: *mut u8, room: usize, count: *mut u64) -> i32;
+    fn wasmloop_outcome_text(outcome: u32, value: u32, used: u64, into: *mut u8, room: usize, count: *mut u64) -> i32;
     fn wasmloop_trap_name(trap: u32) -> *const c_char;
     fn wasmloop_fault_name(stage: u32, code: u32) -> *const c_char;
     fn wasmloop_ending_name(ending: u32) -> *const c_char;
     fn wasmloop_outcome_name(outcome: u32) -> *const c_char;
     fn wasmloop_warning(module: *const Handle, number: u32, into: *mut u8, room: usize, count: *mut u64) -> i32;
     fn wasmloop_explain(bytes: *const u8, length: usize, into: *mut u8, room: usize, count: *mut u64) -> i32;
-    fn wasmloop_load(bytes: *const u8, length: usize, module: *mut Handle, fault: *mut Fault) -> i32;
+    fn wasmloop_load_told(
+        bytes: *const u8,
+        length: usize,
+        module: *mut Handle,
+        fault: *mut Fault,
+        into: *mut u8,
+        room: usize,
+        count: *mut u64,
+    ) -> i32;
+    fn wasmloop_kind(handle: *const Handle, kind: *mut u32) -> i32;
     fn wasmloop_share(module: *const Handle, other: *mut Handle) -> i32;
     fn wasmloop_shape_of(module: *const Handle, shape: *mut Shape) -> i32;
     fn wasmloop_work(module: *const Handle, task: *const Task, bytes: *const u8, length: usize, job: *mut Handle) -> i32;
@@ -398,6 +445,9 @@ pub enum Error {
     Arguments { why: String },
     /// A work function, a call of an instance, or its start function did not return.
     Stopped { ending: u32, trap: u32, used: u64 },
+    /// A call of an instance or a work function passed its deadline; `place` is the backtrace as text. The instance lives on, with the memory and globals
+    /// that a call with exactly that much fuel leaves.
+    Late { used: u64, place: String },
     /// The job or the instance is in the wrong state for this call. `status` is `KIND`, or `NONE` for a reply that does not exist.
     State { status: i32, why: &'static str },
     /// Another status of wasmloop.h.
@@ -418,6 +468,10 @@ impl fmt::Display for Error {
                     _ => write!(to, "the call trapped: {}, after {used} {units}", trap_name(*trap).unwrap_or_default()),
                 }
             }
+            Error::Late { used, place } => {
+                let (units, comma) = (if *used == 1 { "unit" } else { "units" }, if place.is_empty() { "" } else { ", " });
+                write!(to, "the call passed its deadline, after {used} {units}{comma}{place}")
+            }
             Error::State { why, .. } => to.write_str(why),
             Error::Status(status) => to.write_str(sentence(*status)),
         }
@@ -426,16 +480,9 @@ impl fmt::Display for Error {
 
 fn sentence(status: i32) -> &'static str {
     match status {
-        NONE => "there is nothing to return",
-        EMPTY => "the handle is empty",
         KIND => "the object is of another kind, or in another state",
-        MEMORY => "an allocation failed",
         REFUSED => "the bytes are not those of the module",
-        RANGE => "a number is out of range",
-        USED_UP => "the host has sent 2^32 times",
-        NO_WORK => "the module exports no uv_work",
-        ARGUMENTS => "wrong number of arguments, or one out of its type's range",
-        _ => status_name(status).unwrap_or("an unknown status"),
+        _ => static_text(unsafe { wasmloop_status_text(status) }).unwrap_or("an unknown status"),
     }
 }
 
@@ -481,8 +528,9 @@ fn loop_done(status: i32) -> Result<(), Error> {
     if status == OK { Ok(()) } else { Err(loop_failed(status)) }
 }
 
-fn is_paused(of: &mut Handle) -> bool {
-    unsafe { wasmloop_standing_of(of, &mut Standing::default()) == KIND }
+fn is_paused(of: &Handle) -> bool {
+    let mut kind = 0;
+    unsafe { wasmloop_kind(of, &mut kind) == OK && kind >= HOLDS_PAUSED }
 }
 
 fn job_done(job: &mut Handle, status: i32) -> Result<(), Error> {
@@ -560,6 +608,13 @@ pub fn explain(bytes: &[u8]) -> Result<Option<String>, Error> {
 
 type Fails = fn(&mut Handle, i32) -> Error;
 
+/// The backtrace as text, by the bytes that the module keeps; `None` if it returned.
+fn stop_text(handle: &mut Handle, fails: Fails) -> Result<Option<String>, Error> {
+    let at: *mut Handle = handle;
+    let told = text(|into, room, count| unsafe { wasmloop_stop_told(null(), 0, at, into, room, count) });
+    told.map_err(|error| if let Error::Status(status) = error { fails(handle, status) } else { error })
+}
+
 /// The backtrace as text, given the bytes of the module; `None` if it returned.
 fn stop_told(handle: &mut Handle, bytes: &[u8], fails: Fails) -> Result<Option<String>, Error> {
     let at: *mut Handle = handle;
@@ -633,9 +688,10 @@ type MakesJob = unsafe extern "C" fn(*const Handle, *const Task, *const u8, usiz
 impl Module {
     /// Loads a module from its bytes. `Error::Refused` says why they are rejected.
     pub fn new(bytes: &[u8]) -> Result<Module, Error> {
-        let (mut made, mut fault) = (NOTHING, Fault::default());
-        match unsafe { wasmloop_load(bytes.as_ptr(), bytes.len(), &mut made, &mut fault) } {
-            REFUSED => Err(Error::Refused { fault, why: explain(bytes)?.unwrap_or_default() }),
+        let (mut made, mut fault, mut room, mut count) = (NOTHING, Fault::default(), vec![0; 1024], 0);
+        match unsafe { wasmloop_load_told(bytes.as_ptr(), bytes.len(), &mut made, &mut fault, room.as_mut_ptr(), room.len(), &mut count) } {
+            REFUSED if count > room.len() as u64 => Err(Error::Refused { fault, why: explain(bytes)?.unwrap_or_default() }),
+            REFUSED => Err(Error::Refused { fault, why: String::from_utf8_lossy(&room[..count as usize]).into_owned() }),
             status => done(status).map(|()| Module(made)),
         }
     }
@@ -711,6 +767,13 @@ impl Module {
     pub fn work(&self, task: Task, bytes: &[u8]) -> Result<Job, Error> {
         self.make(wasmloop_work, task, bytes)
     }
+
+    /// The same for at most so long, as `Job::run_within`.
+    pub fn work_within(&self, task: Task, bytes: &[u8], deadline: Duration) -> Result<Job, Error> {
+        let mut job = self.job(task, bytes)?;
+        job.run_within(deadline)?;
+        Ok(job)
+    }
 }
 
 impl Instance {
@@ -739,6 +802,19 @@ impl Instance {
         let status = unsafe { wasmloop_call(&mut self.0, told.as_ptr(), args.as_ptr(), args.len(), &limits, &mut ended) };
         self.called(status, name, args)?;
         ended.returned()
+    }
+
+    /// `call` for at most so long: after that, `Error::Late`. A call is given up at most 100,000 units of fuel behind its deadline, about a millisecond.
+    pub fn call_within(&mut self, name: &str, args: &[u64], fuel: u64, depth: u32, deadline: Duration) -> Result<Ended, Error> {
+        let (export, began) = (self.1.export(name)?, Instant::now());
+        let mut ended = self.call_for(&export, args, fuel, depth, SLICE)?;
+        while ended.is_none() && began.elapsed() < deadline {
+            ended = self.run_for(SLICE)?;
+        }
+        match ended {
+            Some(ended) => Ok(ended),
+            None => Err(Error::Late { used: self.end_call()?, place: self.stop_text()?.unwrap_or_default() }),
+        }
     }
 
     /// `call` of a function that `Module::export` of this instance's module returned: no name is looked up.
@@ -779,7 +855,7 @@ impl Instance {
         if over == 1 { ended.returned().map(Some) } else { Ok(None) }
     }
 
-    /// Ends that call before it is over, and returns the fuel that it has used. The instance keeps its memory and globals, as a call with just so much
+    /// Ends that call before it is over, and returns the fuel that it has used. The instance keeps its memory and globals, as a call with exactly that much
     /// fuel leaves them, and may be called again.
     pub fn end_call(&mut self) -> Result<u64, Error> {
         let mut ended = Ended::default();
@@ -824,7 +900,12 @@ impl Instance {
         backtrace(&mut self.0, wasmloop_stop_places, MOST_CALLS, instance_error)
     }
 
-    /// The backtrace as text, given the bytes of the module; `None` if it returned.
+    /// The backtrace as text; `None` if it returned.
+    pub fn stop_text(&mut self) -> Result<Option<String>, Error> {
+        stop_text(&mut self.0, instance_error)
+    }
+
+    /// The backtrace as text, if these are the bytes of the module; `None` if it returned.
     pub fn stop_told(&mut self, bytes: &[u8]) -> Result<Option<String>, Error> {
         stop_told(&mut self.0, bytes, instance_error)
     }
@@ -845,6 +926,17 @@ impl Job {
         let status = unsafe { wasmloop_job_run_for(&mut self.0, units, &mut over) };
         job_done(&mut self.0, status)?;
         Ok(over == 1)
+    }
+
+    /// Runs the job until it is over, or so long: then `Error::Late`, and the job is paused. It looks at the clock after each 100,000 units of fuel.
+    pub fn run_within(&mut self, deadline: Duration) -> Result<(), Error> {
+        let began = Instant::now();
+        while !self.run_for(SLICE)? {
+            if began.elapsed() >= deadline {
+                return Err(Error::Late { used: self.about()?.used, place: self.stop_text()?.unwrap_or_default() });
+            }
+        }
+        Ok(())
     }
 
     /// The job's request, its outcome, and the fuel that it has used so far.
@@ -903,7 +995,12 @@ impl Job {
         backtrace(&mut self.0, wasmloop_stop_places, MOST_SITES, job_error)
     }
 
-    /// The backtrace as text, given the bytes of the module; `None` if it returned.
+    /// The backtrace as text; `None` if it returned.
+    pub fn stop_text(&mut self) -> Result<Option<String>, Error> {
+        stop_text(&mut self.0, job_error)
+    }
+
+    /// The backtrace as text, if these are the bytes of the module; `None` if it returned.
     pub fn stop_told(&mut self, bytes: &[u8]) -> Result<Option<String>, Error> {
         stop_told(&mut self.0, bytes, job_error)
     }
@@ -928,7 +1025,12 @@ impl Loop {
         backtrace(&mut self.0, wasmloop_stop_places, MOST_CALLS, loop_error)
     }
 
-    /// The backtrace as text, given the bytes of the module; `None` if it returned.
+    /// The backtrace as text; `None` if it returned.
+    pub fn stop_text(&mut self) -> Result<Option<String>, Error> {
+        stop_text(&mut self.0, loop_error)
+    }
+
+    /// The backtrace as text, if these are the bytes of the module; `None` if it returned.
     pub fn stop_told(&mut self, bytes: &[u8]) -> Result<Option<String>, Error> {
         stop_told(&mut self.0, bytes, loop_error)
     }

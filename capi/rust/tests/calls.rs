@@ -1,6 +1,6 @@
 //! The calls on the examples of this repository, and on the plug-in that WASMLOOP_PLUGIN names (capi/test/plugins/kv.c), where it does.
 
-use std::{env, fs, thread};
+use std::{env, fs, thread, time::Duration};
 use wasmloop::{Error, Instance, Job, Limits, Loop, Module, Task};
 
 const LIMITS: Limits = Limits { fuel: 1_000_000, work_fuel: 1_000_000, number: 0, depth: 64 };
@@ -90,6 +90,39 @@ fn it_is_told_where_work_stopped() {
     assert!(told.starts_with(&format!("in function {} (", places[0].function)));
     assert!(told.contains(&format!(", instruction {} (", places[0].instruction)) && told.contains(&format!(" at byte {}", places[0].byte)));
     assert!(matches!(job.stop_told(b"asm"), Err(Error::Status(wasmloop::REFUSED))));
+}
+
+/// spin() adds 1 to the global g for ever, count() returns it, and uv_work spins.
+#[rustfmt::skip]
+const SPINS: &[u8] = &[
+    0, 97, 115, 109, 1, 0, 0, 0, 1, 13, 3, 96, 0, 0, 96, 0, 1, 127, 96, 1, 127, 1, 127, 3, 4, 3, 0, 1,
+    2, 6, 6, 1, 127, 1, 65, 0, 11, 7, 30, 4, 4, 115, 112, 105, 110, 0, 0, 5, 99, 111, 117, 110, 116, 0, 1, 7,
+    117, 118, 95, 119, 111, 114, 107, 0, 2, 1, 103, 3, 0, 10, 30, 3, 14, 0, 3, 64, 35, 0, 65, 1, 106, 36, 0, 12,
+    0, 11, 11, 4, 0, 35, 0, 11, 8, 0, 3, 64, 12, 0, 11, 0, 11,
+];
+
+#[test]
+fn what_is_late_leaves_its_instance() {
+    let spins = Module::new(SPINS).unwrap();
+    let (mut it, mut other) = (Instance::new(&spins, 1, 64).unwrap(), Instance::new(&spins, 1, 64).unwrap());
+    for deadline in [0, 20] {
+        let why = it.call_within("spin", &[], 1 << 62, 64, Duration::from_millis(deadline)).unwrap_err();
+        let words = why.to_string();
+        let (used, place) = match why {
+            Error::Late { used, place } => (used, place),
+            _ => panic!("{words}"),
+        };
+        assert!(used > 0 && place.starts_with("in function 0") && place == it.stop_text().unwrap().unwrap());
+        assert_eq!(words, format!("the call passed its deadline, after {used} units, {place}"));
+        assert!(matches!(other.call("spin", &[], used, 64), Err(Error::Stopped { ending: wasmloop::SPENT, .. })));
+        let value = other.global("g").unwrap().unwrap().number;
+        assert_eq!((it.global("g").unwrap().unwrap().number, it.call("count", &[], 9, 64).unwrap().results()[0]), (value, value));
+    }
+    assert_eq!(it.call_within("count", &[], 9, 64, Duration::from_secs(9)).unwrap().text(), "returned, after 1 unit");
+    assert!(matches!(spins.work_within(task(1 << 62), b"", Duration::from_millis(5)), Err(Error::Late { place, .. }) if place.starts_with("in function 2")));
+    let mut job = spins.work_within(task(1_000_000), b"", Duration::from_secs(9)).unwrap();
+    assert_eq!(job.about().unwrap().text(), "out of fuel, after 1,000,000 units");
+    assert_eq!(job.stop_text().unwrap(), job.stop_told(SPINS).unwrap());
 }
 
 #[test]
@@ -222,6 +255,10 @@ fn an_instance_keeps_its_memory() {
     assert!(it.run_for(1).unwrap().is_none());
     assert_eq!(it.end_call().unwrap(), 1);
     assert_eq!(said(it.run_for(1)), "no call is in progress");
+    assert!(it.call_for(&adds, &[10], 1_000_000, 64, 1).unwrap().is_none());
+    assert_eq!(it.end_call().unwrap(), 1);
+    let sum = it.call("add", &[0], 1_000_000, 64).unwrap().results()[0];
+    assert_eq!(it.call_for(&adds, &[10], 1_000_000, 64, 1_000).unwrap().unwrap().results(), &[sum + 10]);
     assert_eq!(said(it.begin("absent", &[], 1, 64)), "no function is exported as \"absent\"");
     assert!(it.global("absent").unwrap().is_none());
     assert!(it.call("add", &[0], 1_000_000, 64).is_ok() && it.stop().unwrap().is_empty());

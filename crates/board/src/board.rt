@@ -29,20 +29,11 @@ impl Fits<Reply> for OfLoop {
 /// A board: a bounded queue of jobs, one of replies for each loop, and whether it was closed.
 ///
 /// To a contract it is a `BoardView`: its lines, each with how many it has places for.
+#[derive(Drop)]
 pub struct Board<J = JobBox> {
     jobs: Line<J, Any>,
     replies: Vec<Line<Reply, OfLoop>>,
     closed: AtomicBool,
-}
-
-impl<J: Drop> Drop for Board<J> {
-    fn drop(self) {
-        let Board {
-            jobs: _,
-            replies: _,
-            closed: _,
-        } = self;
-    }
 }
 
 impl<J> Model for Board<J> {
@@ -58,18 +49,10 @@ impl<J> Model for Board<J> {
 }
 
 /// With which one thread steps on a board. To a contract it is a `PassView`: what was done with it on each line.
+#[derive(Drop)]
 pub struct Pass<J = JobBox> {
     jobs: Hand<J>,
     replies: Vec<Hand<Reply>>,
-}
-
-impl<J: Drop> Drop for Pass<J> {
-    fn drop(self) {
-        let Pass {
-            jobs: _,
-            replies: _,
-        } = self;
-    }
 }
 
 impl<J> Model for Pass<J> {
@@ -89,18 +72,10 @@ impl<J> Model for Pass<J> {
 
 /// With which all passes of a board are taken in, once their threads have ended. To a contract it is a `GatheringView`: what was taken
 /// in of each line.
+#[derive(Drop)]
 pub struct Gathering<J = JobBox> {
     jobs: Maker<J>,
     replies: Vec<Maker<Reply>>,
-}
-
-impl<J: Drop> Drop for Gathering<J> {
-    fn drop(self) {
-        let Gathering {
-            jobs: _,
-            replies: _,
-        } = self;
-    }
 }
 
 impl<J> Model for Gathering<J> {

@@ -7,9 +7,9 @@ use Rattle.limits.specs.declared.TheConstants.{MAX_REQUESTS, MAX_LOOPS}
 use Rattle.tallies.specs.Requests.{last_in}
 use Rattle.tallies.proofs.Lists.{part_set, part_push, set_apart}
 use Rattle.claims.specs.declared.rule.SeatView.{SeatView}
-use Rattle.claims.specs.Rule.{IsWorker, IsGathering, with_worker, with_gathering, without_gathering, without_workers, gathering_of, workers_of, spent_view, seat_of, making_seat, next_making_seat, next_seat, place, of_loop, WordsAreKept, IsClaimed}
+use Rattle.claims.specs.Rule.{IsWorker, IsCrew, with_worker, with_crew, without_crew, without_workers, crew_of, workers_of, spent_view, seat_of, making_seat, next_making_seat, next_seat, place, of_loop, WordsAreKept, IsClaimed}
 use Rattle.claims.specs.Inner.Steps.{with_opened}
-use Rattle.claims.proofs.Moves.{begins, hit, no_list, own, opens, makes_seat, joins_worker, joins_gathering, gives_back, gives_up}
+use Rattle.claims.proofs.Moves.{begins, hit, no_list, own, opens, makes_seat, joins_worker, joins_crew, gives_back, gives_up}
 
 no_last : (views : List SeatView) (l slot : ℕ) → (of_loop views l).opened ≡ [] → last_in slot (of_loop views l).opened ≡ 0
 no_last views l slot none = ap (λ cs. last_in slot cs) none
@@ -60,25 +60,25 @@ module _ {loops : ℕ} {words : List ℕ} {views : List SeatView} (claimed : IsC
             ∙ part_set (λ u. u.opened) views id (l + 1) v (with_worker v o) (seat_of 0) at refl ∙ claimed.others l far;
       }
 
-  pub joins_all_claimed : (other : ℕ) (o : SeatView) → ¬ (other ≡ id) → get_elem? (set views id (with_gathering v o)) other ≡ some o → IsGathering o
-      → IsClaimed loops words (set (set views id (with_gathering v o)) other spent_view)
+  pub joins_all_claimed : (other : ℕ) (o : SeatView) → ¬ (other ≡ id) → get_elem? (set views id (with_crew v o)) other ≡ some o → IsCrew o
+      → IsClaimed loops words (set (set views id (with_crew v o)) other spent_view)
   joins_all_claimed other o apart there idle =
       record {
-        kept = joins_gathering claimed.kept id v at other o apart there idle;
+        kept = joins_crew claimed.kept id v at other o apart there idle;
         others =
             λ l far.
-            part_set (λ u. u.opened) (set views id (with_gathering v o)) other (l + 1) o spent_view (seat_of 0) there (sym idle.opened)
-            ∙ part_set (λ u. u.opened) views id (l + 1) v (with_gathering v o) (seat_of 0) at refl ∙ claimed.others l far;
+            part_set (λ u. u.opened) (set views id (with_crew v o)) other (l + 1) o spent_view (seat_of 0) there (sym idle.opened)
+            ∙ part_set (λ u. u.opened) views id (l + 1) v (with_crew v o) (seat_of 0) at refl ∙ claimed.others l far;
       }
 
-  pub gives_back_claimed : 0 < v.made → IsClaimed loops words (set views id (without_gathering v) ++ gathering_of v ∷ [])
+  pub gives_back_claimed : 0 < v.made → IsClaimed loops words (set views id (without_crew v) ++ crew_of v ∷ [])
   gives_back_claimed some_made =
       record {
         kept = gives_back claimed.kept id v at some_made;
         others =
             λ l far.
-            part_push (λ u. u.opened) (set views id (without_gathering v)) (gathering_of v) (seat_of 0) (l + 1) refl
-            ∙ part_set (λ u. u.opened) views id (l + 1) v (without_gathering v) (seat_of 0) at refl ∙ claimed.others l far;
+            part_push (λ u. u.opened) (set views id (without_crew v)) (crew_of v) (seat_of 0) (l + 1) refl
+            ∙ part_set (λ u. u.opened) views id (l + 1) v (without_crew v) (seat_of 0) at refl ∙ claimed.others l far;
       }
 
   pub gives_up_claimed : 0 < v.made → IsClaimed loops words (set views id (without_workers v) ++ workers_of v ∷ [])

@@ -26,22 +26,12 @@ const NO_REQUEST: u32 = 0;
 
 /// What a loop shares. Contracts see all that was done: what the loop knows, the requests that workers started, how
 /// much waits at each async, and how much was sent there by others.
+#[derive(Drop)]
 pub struct Desk {
     table: Table<(), History, u32, Agreement, Global>,
     seat: Seat<(), History>,
     own_sends: u64,
     other_sends: u64,
-}
-
-impl Drop for Desk {
-    fn drop(self) {
-        let Desk {
-            table: _,
-            seat: _,
-            own_sends: _,
-            other_sends: _,
-        } = self;
-    }
 }
 
 impl Model for Desk {

@@ -8,15 +8,10 @@ use std::alloc::{AllocError, Global};
 
 /// What an instance had of memory that is over: room for its memory's bytes, and its stack. The next one takes it, and nothing
 /// anew where it suffices.
+#[derive(Drop)]
 pub struct Room {
     front: Option<Vec<u8>>,
     stack: Option<CallStack>,
-}
-
-impl Drop for Room {
-    fn drop(self) {
-        let Room { front: _, stack: _ } = self;
-    }
 }
 
 impl Room {

@@ -26,6 +26,13 @@ pub struct Paused {
 }
 
 impl Paused {
+    /// The function that was called.
+    pub fn function(&self) -> u32
+        ensures { result ≡ self.now.function }
+    {
+        self.function
+    }
+
     /// The units of fuel that it has used.
     pub fn used(&self) -> u64
         ensures { result ≡ self.now.used }

@@ -34,6 +34,13 @@ pub struct Slice {
     pub units: u64,
 }
 
+/// How a call in slices is over: its ending, and where it stopped, unless it returned.
+#[derive(Clone, Copy)]
+pub(crate) struct Over {
+    pub ended: BareEnded,
+    pub last: Option<Last>,
+}
+
 /// Begins a call of a defined function on this state, with room for these callers, over this host: nothing runs yet.
 pub(crate) fn begin<H: Host>(
     code: &ModuleCode,
@@ -82,9 +89,9 @@ fn most_bytes(copied: u64, units: u64) -> u64
 }
 
 /// Goes on with a call for at most the units of the slice, where each `UNIT_BYTES` that the host copies count as one. If it is over then, its
-/// ending is returned, with all fuel that it has used since it began, its results are in the first of the places that are lent, at least as many
-/// as the function has, and where it was over is kept, unless it returned; else some fuel is left, and it stands where a run with just so much
-/// fuel as it has used is over as spent.
+/// ending is returned, with all fuel that it has used since it began and where it was over, unless it returned, and its results are in the first
+/// of the places that are lent, at least as many as the function has; else some fuel is left, and it stands where a run with just so much fuel as
+/// it has used is over as spent.
 #[inline(always)]
 pub(crate) fn go_on_lent<H: Host>(
     code: &ModuleCode,
@@ -92,10 +99,9 @@ pub(crate) fn go_on_lent<H: Host>(
     host: &mut H,
     slots: &mut Slots,
     frames: &mut [Caller],
-    ended_at: &mut Option<Last>,
     slice: &mut Slice,
     places: &mut [Value],
-) -> Option<BareEnded>
+) -> Option<Over>
     requires valid { ValidModule code.now.contents.now }
     requires agree { AreTables code.now.contents.now code.now.tables.now }
     requires names { Names code.now.contents.now (H.types host.old) }
@@ -104,17 +110,17 @@ pub(crate) fn go_on_lent<H: Host>(
     requires places { result_count code.now.contents.now slice.old.paused.function ≤ length places.old }
     ensures over { IfSome result (λ o. (s : Store) (before : H) (args : List Argument) (fuel : ℕ)
         → RunIsPaused code.now.contents.now code.now.tables.now H.moves s before args fuel slice.old.paused slots.old frames.old state.old host.old
-        → RunIsOver code.now.contents.now slice.old.paused.depth H.moves slice.old.paused.function s before args fuel (ended_in code.now.contents.now slice.old.paused.function o places.new) state.new host.new (stop_of ended_at.new frames.new)) }
+        → RunIsOver code.now.contents.now slice.old.paused.depth H.moves slice.old.paused.function s before args fuel
+        (ended_in code.now.contents.now slice.old.paused.function o.ended places.new) state.new host.new (stop_of o.last frames.new)) }
     ensures paused { result ≡ None → (s : Store) (before : H) (args : List Argument) (fuel : ℕ)
         → RunIsPaused code.now.contents.now code.now.tables.now H.moves s before args fuel slice.old.paused slots.old frames.old state.old host.old
         → RunIsPaused code.now.contents.now code.now.tables.now H.moves s before args fuel slice.new.paused slots.new frames.new state.new host.new }
     ensures stands { result ≡ None → IsSome slice.new.paused.last }
     ensures call { (slice.new.paused.function ≡ slice.old.paused.function) × (slice.new.paused.depth ≡ slice.old.paused.depth) }
     ensures slice { result ≡ None → UsesAll slice.old.paused slice.old.units (H.copied host.old) (H.copied host.new) slice.new.paused }
-    ensures last { IfSome result (λ o. UsesSome slice.old.paused slice.old.units o.used) }
-    ensures results { IfSome result (λ o. ReturnsTyped code.now.contents.now slice.old.paused.function (ended_in code.now.contents.now slice.old.paused.function o places.new).ending) }
-    ensures callers { IfSome result (λ _. IfSome ended_at.new (λ l. l.depth ≤ MAX_DEPTH)) }
-    ensures same { result ≡ None → ended_at.new ≡ ended_at.old }
+    ensures last { IfSome result (λ o. UsesSome slice.old.paused slice.old.units o.ended.used) }
+    ensures results { IfSome result (λ o. ReturnsTyped code.now.contents.now slice.old.paused.function (ended_in code.now.contents.now slice.old.paused.function o.ended places.new).ending) }
+    ensures callers { IfSome result (λ o. IfSome o.last (λ l. l.depth ≤ MAX_DEPTH)) }
     ensures kept { IsStoreOf code.now.contents.now state.new }
     ensures copies { H.copied host.old ≤ H.copied host.new }
     ensures types { H.types host.new ≡ H.types host.old }
@@ -148,11 +154,13 @@ pub(crate) fn go_on_lent<H: Host>(
         };
         return None;
     }
-    *ended_at = run.last;
     read_results(ended.ending, outermost.types, slots, place.at.sp, places);
     let mut whole = ended;
     whole.used += paused.used;
-    Some(whole)
+    Some(Over {
+        ended: whole,
+        last: run.last,
+    })
 }
 
 /// Does what `go_on_lent` does, with room for the most results.
@@ -189,15 +197,7 @@ pub(crate) fn go_on<H: Host>(
 {
     let count = result_count(code.contents, slice.paused.function);
     let mut places = [Value::I32(0); MAX_RESULTS];
-    let ended = go_on_lent(
-        code,
-        state,
-        host,
-        slots,
-        frames,
-        ended_at,
-        slice,
-        &mut places,
-    )?;
-    Some(ended_with(ended, &places[..count]))
+    let over = go_on_lent(code, state, host, slots, frames, slice, &mut places)?;
+    *ended_at = over.last;
+    Some(ended_with(over.ended, &places[..count]))
 }

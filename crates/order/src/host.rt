@@ -17,6 +17,7 @@ use syntax::types::Value;
 
 /// The host of a work function: it has the module, the bytes that there are to read, the bytes of the reply as
 /// they were set last, and how many bytes its calls have copied.
+#[derive(Drop)]
 pub struct WorkHost {
     pub linked: Arc<Linked, Global>,
     pub bytes: Arc<Vec<u8>, Global>,
@@ -24,17 +25,6 @@ pub struct WorkHost {
     pub copied: u64,
     pub ghost few: { length (arc_value bytes).items ≤ MAX_BYTES },
     pub ghost room: { MAX_BYTES ≤ vec_capacity reply },
-}
-
-impl Drop for WorkHost {
-    fn drop(self) {
-        let WorkHost {
-            linked: _,
-            bytes: _,
-            reply: _,
-            copied: _,
-        } = self;
-    }
 }
 
 impl WorkHost {

@@ -38,20 +38,11 @@ use syntax::types::Value;
 
 /// What an order under way runs on: its instance's state, its host, and a machine for calls in slices. All of it is reserved when the
 /// order begins.
+#[derive(Drop)]
 pub(crate) struct WorkMachine {
     pub(crate) state: State,
     pub(crate) host: WorkHost,
     pub(crate) machine: Machine,
-}
-
-impl Drop for WorkMachine {
-    fn drop(self) {
-        let WorkMachine {
-            state: _,
-            host: _,
-            machine: _,
-        } = self;
-    }
 }
 
 impl WorkMachine {

@@ -12,6 +12,7 @@ use syntax::laws::one_module;
 
 /// A work request of a loop: whose it is, the operation and the bytes, the module that computes it, and what it may
 /// use.
+#[derive(Drop)]
 pub struct Order {
     /// The loop that asks.
     pub loop_no: u32,
@@ -32,21 +33,6 @@ pub struct Order {
 }
 
 // By hand, as for each type here that crates above drop: they take its contract, and prove no derived body anew.
-impl Drop for Order {
-    fn drop(self) {
-        let Order {
-            loop_no: _,
-            request: _,
-            slot: _,
-            module: _,
-            op: _,
-            bytes: _,
-            fuel: _,
-            depth: _,
-        } = self;
-    }
-}
-
 /// What becomes of a request.
 #[derive(Drop)]
 pub enum Outcome {

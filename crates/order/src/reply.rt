@@ -9,6 +9,7 @@ use crate::order::{Order, Outcome};
 /// An order with what became of it: its end, which is all that one thread computes from the order alone, or that there
 /// was no memory. `Order::run` alone makes one.
 #[non_exhaustive]
+#[derive(Drop)]
 pub struct Reply {
     pub order: Order,
     pub outcome: Outcome,
@@ -22,14 +23,5 @@ impl Reply {
     {
         let Reply { order: _, outcome } = self;
         outcome
-    }
-}
-
-impl Drop for Reply {
-    fn drop(self) {
-        let Reply {
-            order: _,
-            outcome: _,
-        } = self;
     }
 }

@@ -86,8 +86,8 @@ fn all_parts<T: Drop>(
     ensures linked { IfOk result (λ r. arc_value r.linked ≡ arc_value linked.now) }
     ensures input { IfOk result (λ r. arc_value r.input ≡ arc_value input.now) }
 {
-    let (state, _) = instance_of(alloc, linked, &mut Room::empty())?.into_parts();
-    let machine = Machine::new(alloc, linked.valid())?;
+    let (state, stack) = instance_of(alloc, linked, &mut Room::empty())?.into_parts();
+    let machine = Machine::of(linked.valid(), stack)?;
     Ok(ReservedParts {
         state,
         machine,

@@ -41,20 +41,11 @@ use syntax::types::Value;
 
 /// An order under way, between two slices. It may be kept, given to another thread, or dropped at any time. Contracts see the order, how
 /// many units of fuel it has used so far, and how many bytes `in_copy` and `out_set` have copied for it.
+#[derive(Drop)]
 pub struct Running {
     order: Order,
     machine: WorkMachine,
     stage: RunStage,
-}
-
-impl Drop for Running {
-    fn drop(self) {
-        let Running {
-            order: _,
-            machine: _,
-            stage: _,
-        } = self;
-    }
 }
 
 impl Model for Running {

@@ -57,23 +57,13 @@ pub enum Accepted {
 /// One event loop, over what it shares with other threads.
 ///
 /// Contracts see what it is made of, and the loop as it stands.
+#[derive(Drop)]
 pub struct LoopCore<B: Shared + Drop> {
     pub(crate) linked: Arc<Linked, Global>,
     pub(crate) store: State,
     pub(crate) stack: CallStack,
     pub(crate) host: LoopHost<B>,
     ghost stopped: { IfSome stack (λ sites. ∥ LoopStopsAt B.calls (setting_of host.setting) store sites ∥₁) } by { Prim.hlevel props },
-}
-
-impl<B: Shared + Drop> Drop for LoopCore<B> {
-    fn drop(self) {
-        let LoopCore {
-            linked: _,
-            store: _,
-            stack: _,
-            host: _,
-        } = self;
-    }
 }
 
 impl<B: Shared + Drop> Model for LoopCore<B> {

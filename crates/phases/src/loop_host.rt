@@ -27,6 +27,7 @@ use syntax::types::Value;
 
 /// The host of a loop's callbacks: what the loop is made of, its state, what it shares with other threads, and how many bytes its calls
 /// have copied.
+#[derive(Drop)]
 pub struct LoopHost<B: Shared + Drop> {
     pub(crate) alloc: Global,
     pub(crate) setting: Setting,
@@ -49,18 +50,6 @@ impl<B: Shared + Drop> LoopHost<B> {
             copied: _,
         } = self;
         shared
-    }
-}
-
-impl<B: Shared + Drop> Drop for LoopHost<B> {
-    fn drop(self) {
-        let LoopHost {
-            alloc: _,
-            setting: _,
-            state: _,
-            shared: _,
-            copied: _,
-        } = self;
     }
 }
 

@@ -35,6 +35,7 @@ use std::alloc::{AllocError, Global};
 use std::marker::Model;
 
 /// The state of a loop.
+#[derive(Drop)]
 pub struct LoopState {
     pub(crate) roster: Roster,
     pub(crate) requests: Requests,
@@ -45,22 +46,6 @@ pub struct LoopState {
     pub(crate) reply: Option<Vec<u8>>,
     pub(crate) emits: Emits,
     pub(crate) status: Status,
-}
-
-impl Drop for LoopState {
-    fn drop(self) {
-        let LoopState {
-            roster: _,
-            requests: _,
-            clock: _,
-            time: _,
-            phase: _,
-            entries: _,
-            reply: _,
-            emits: _,
-            status: _,
-        } = self;
-    }
 }
 
 impl Model for LoopState {

@@ -39,20 +39,11 @@ use syntax::types::Value;
 use validate::Valid;
 
 /// What a callback under way runs on: its loop's instance and host, and a machine for calls in slices.
+#[derive(Drop)]
 pub(crate) struct LoopMachine<B: Shared + Drop> {
     pub(crate) store: State,
     pub(crate) host: LoopHost<B>,
     pub(crate) machine: Machine,
-}
-
-impl<B: Shared + Drop> Drop for LoopMachine<B> {
-    fn drop(self) {
-        let LoopMachine {
-            store: _,
-            host: _,
-            machine: _,
-        } = self;
-    }
 }
 
 impl<B: Shared + Drop> LoopMachine<B> {

@@ -15,15 +15,10 @@ use std::marker::Model;
 use std::mem;
 
 /// An outstanding request: its order, and how far it has come.
+#[derive(Drop)]
 pub struct Request {
     order: Order,
     stage: Stage,
-}
-
-impl Drop for Request {
-    fn drop(self) {
-        let Request { order: _, stage: _ } = self;
-    }
 }
 
 impl Model for Request {

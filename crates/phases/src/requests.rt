@@ -23,15 +23,10 @@ use std::alloc::{AllocError, Global};
 use std::marker::Model;
 
 /// The outstanding requests of a loop by their numbers, which rise, and the last number that was given.
+#[derive(Drop)]
 pub struct Requests {
     items: Vec<Request>,
     last: u32,
-}
-
-impl Drop for Requests {
-    fn drop(self) {
-        let Requests { items: _, last: _ } = self;
-    }
 }
 
 impl Model for Requests {

@@ -18,22 +18,12 @@ use std::marker::Model;
 
 /// The handles of a loop: the closing ones in the order of their closing, the table, the functions that callbacks name, and the asyncs
 /// by number. The fields stand so that what each turn reads lies side by side: the lengths of both arrays, but not their places.
+#[derive(Drop)]
 pub struct Roster {
     closing: ArrayVec<u32, MAX_HANDLES>,
     handles: Handles,
     callbacks: Vec<Option<u32>>,
     asyncs: ArrayVec<Option<u32>, MAX_ASYNCS>,
-}
-
-impl Drop for Roster {
-    fn drop(self) {
-        let Roster {
-            closing: _,
-            handles: _,
-            callbacks: _,
-            asyncs: _,
-        } = self;
-    }
 }
 
 impl Model for Roster {

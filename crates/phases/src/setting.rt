@@ -13,20 +13,11 @@ use std::alloc::{AllocError, Global};
 use std::sync::Arc;
 
 /// What a loop is made of: its module, its number, and what its runs may spend.
+#[derive(Drop)]
 pub struct Setting {
     pub linked: Arc<Linked, Global>,
     pub loop_no: u32,
     pub settings: LoopSettings,
-}
-
-impl Drop for Setting {
-    fn drop(self) {
-        let Setting {
-            linked: _,
-            loop_no: _,
-            settings: _,
-        } = self;
-    }
 }
 
 impl Setting {

@@ -26,24 +26,13 @@ use std::sync::Arc;
 
 /// A step whose callback is under way, between two slices, with its loop: nothing else can be done with that. It may be kept, given to
 /// another thread, or dropped at any time.
+#[derive(Drop)]
 pub struct Stepping<B: Shared + Drop> {
     linked: Arc<Linked, Global>,
     machine: LoopMachine<B>,
     kind: EntryKind,
     number: u32,
     paused: Paused,
-}
-
-impl<B: Shared + Drop> Drop for Stepping<B> {
-    fn drop(self) {
-        let Stepping {
-            linked: _,
-            machine: _,
-            kind: _,
-            number: _,
-            paused: _,
-        } = self;
-    }
 }
 
 impl<B: Shared + Drop> Model for Stepping<B> {

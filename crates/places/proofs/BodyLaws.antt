@@ -3,7 +3,7 @@ use Rattle.places.proofs.Words.{FirstSection, FirstSectionAt, free_counted, free
 use Rattle.places.proofs.Words.{BodyAt, counted, free_u32, integer, IsTheOne, items_none, Language, LeavesNone, NoneBegins, repeated, Section, slice_range, sym}
 use Rattle.places.proofs.Words.{apart, arith, drop, IsTrue, items, joined, Leaves, length, List, None, refl, rules, u32, ℕ, [], ◌++◌, ◌+◌, ◌∷◌, ◌≡◌, ◌≤◌, ◌⨾◌}
 use Rattle.std.proofs.Common.{◌*◌, ◌<◌, Bool, true, false, Option, Some, IfSome, ap, ◌∙◌, append-nil, ◌⊎◌, inl, inr, ◌↔◌, nat_lt}
-use Rattle.places.specs.Spans.{NoBody}
+use Rattle.places.specs.Spans.{CodeAt, NoBody}
 use Rattle.places.specs.Lengths.{IsInLocals}
 use Rattle.places.proofs.SpanLaws.{PastBodies, items_push, length_between}
 use Rattle.places.proofs.WalkLaws.{GoesOn, either, first_one, first_section}
@@ -13,7 +13,7 @@ leaves_less : {L : Language} {bytes rest : List ℕ} → Leaves L bytes rest →
 leaves_less {L} {bytes} {rest} h = let l : length bytes ≡ length (h.front ++ rest) = ap length h.split in omega (arith, l, length-append h.front rest)
 
 -- places with the same bytes behind them
-same_place : (bytes : List ℕ) (a b : ℕ) → a ≤ length bytes → b ≤ length bytes → drop a bytes ≡ drop b bytes → a ≡ b
+pub same_place : (bytes : List ℕ) (a b : ℕ) → a ≤ length bytes → b ≤ length bytes → drop a bytes ≡ drop b bytes → a ≡ b
 same_place bytes a b x y e = let l : length (drop a bytes) ≡ length (drop b bytes) = ap length e in omega (arith, l, x, y, length-drop a bytes, length-drop b bytes)
 
 -- the walk over no fewer items is the one that goes on
@@ -119,6 +119,37 @@ missed_more number at {bytes} {held} {b} {f} {t} missed x not n c g u less y i j
     go (inr (inl fewer)) = missed n c g u fewer y i j
     go (inr (inr more)) = omega (arith, less, more)
 
+-- The walk over bodies ends before one of this number.
+pub no_body_from : {bytes : List ℕ} {held count first number here n b f t : ℕ} → StandsBetween (u32 count) bytes held first → PastBodies bytes first number here
+    → NoneBegins counted (drop here bytes) → number ≤ n → BodyAt bytes held n b f t → ⊥
+no_body_from {bytes} {held} {count} {first} {number} {here} {n} {b} {f} {t} s p none more x =
+    let k : length p.before ≡ number = p.as_many in
+    let l : length x.before ≡ n = x.as_many in
+    let e = free_u32.one x.count count (drop held bytes) (drop x.first bytes) (drop first bytes) x.counted_first.spelled s.spelled in
+    let o = on free_counted p.before x.before (drop x.first bytes) (drop here bytes) (drop b bytes) (omega (arith, k, l, more))
+    (rw (← e.1) at p.stand) x.in_front.spelled in
+    stuck o.more o.between
+  where
+    stuck : (more : List (List ℕ)) → Leaves (items counted more) (drop here bytes) (drop b bytes) → ⊥
+    stuck [] l = none (slice_range bytes f t) (drop t bytes) (rw (items_none l) x.here.spelled)
+    stuck (v ∷ more) l = let a = apart l in none v a.mid a.first
+
+-- none of this number stands behind no count, and none where the walk over bodies ends before it
+pub no_number_count : (bytes : List ℕ) (held n : ℕ) → NoneBegins u32 (drop held bytes) → (at from to : ℕ) → BodyAt bytes held n at from to → ⊥
+no_number_count bytes held n none at from to x = none x.count (drop x.first bytes) x.counted_first.spelled
+
+pub no_number_here : {bytes : List ℕ} {held count first number here : ℕ} (n : ℕ) → StandsBetween (u32 count) bytes held first → PastBodies bytes first number here
+    → NoneBegins counted (drop here bytes) → number ≤ n → (at from to : ℕ) → BodyAt bytes held n at from to → ⊥
+no_number_here n s p none more at from to x = no_body_from s p none more x
+
+-- All bodies are walked past before one of this number.
+pub no_body_after : {bytes : List ℕ} {held count first number n b f t : ℕ} → StandsBetween (u32 count) bytes held first → count ≤ number → number ≤ n → BodyAt bytes held n b f t → ⊥
+no_body_after {bytes} {held} {count} {first} {number} {n} s over more x =
+    let e = free_u32.one x.count count (drop held bytes) (drop x.first bytes) (drop first bytes) x.counted_first.spelled s.spelled in
+    let same : x.count ≡ count = e.0 in
+    let few : n < x.count = x.few in
+    omega (arith, same, few, over, more)
+
 -- The walk over bodies ends here.
 pub no_body_behind : (at : ℕ) {bytes : List ℕ} {held count first number here : ℕ} → StandsBetween (u32 count) bytes held first → PastBodies bytes first number here
     → NoneBegins counted (drop here bytes) → Missed bytes held number at → NoBody bytes held at
@@ -129,17 +160,7 @@ no_body_behind at {bytes} {held} {count} {first} {number} {here} s p none missed
 
     go : (n < number) ⊎ (number ≤ n) → ⊥
     go (inl fewer) = missed n b f t fewer x i j
-    go (inr more) =
-        let k : length p.before ≡ number = p.as_many in
-        let l : length x.before ≡ n = x.as_many in
-        let e = free_u32.one x.count count (drop held bytes) (drop x.first bytes) (drop first bytes) x.counted_first.spelled s.spelled in
-        let o = on free_counted p.before x.before (drop x.first bytes) (drop here bytes) (drop b bytes) (omega (arith, k, l, more))
-        (rw (← e.1) at p.stand) x.in_front.spelled in
-        stuck o.more o.between
-      where
-        stuck : (more : List (List ℕ)) → Leaves (items counted more) (drop here bytes) (drop b bytes) → ⊥
-        stuck [] l = none (slice_range bytes f t) (drop t bytes) (rw (items_none l) x.here.spelled)
-        stuck (v ∷ more) l = let a = apart l in none v a.mid a.first
+    go (inr more) = no_body_from s p none more x
 
 -- All bodies are walked past.
 pub no_body_of : (number at : ℕ) {bytes : List ℕ} {held count first : ℕ} → StandsBetween (u32 count) bytes held first → count ≤ number → Missed bytes held number at → NoBody bytes held at
@@ -154,7 +175,7 @@ no_body_count bytes held at none n b f t x i j = none x.count (drop x.first byte
 
 -- ---- locals
 
-section_same : {bytes : List ℕ} {id at from to a f t : ℕ} → FirstSectionAt bytes id at from to → FirstSectionAt bytes id a f t → from ≡ f
+pub section_same : {bytes : List ℕ} {id at from to a f t : ℕ} → FirstSectionAt bytes id at from to → FirstSectionAt bytes id a f t → from ≡ f
 section_same {bytes} {id} {at} {from} {to} {a} {f} {t} x y =
     let e = first_one free_section (drop 8 bytes) (record { id = id; contents = slice_range bytes from to }) (record { id = id; contents = slice_range bytes f t })
     (drop to bytes) (drop t bytes) (first_section x) (first_section y) in
@@ -166,10 +187,17 @@ section_same {bytes} {id} {at} {from} {to} {a} {f} {t} x y =
     let long : length (slice_range bytes from to) ≡ length (slice_range bytes f t) = ap (λ (s : Section). length s.contents) e.0 in
     omega (arith, long, ends, p, q, length_between bytes from to p i, length_between bytes f t q j)
 
-abbrev LocalsOf : List ℕ → List ℕ → Type 0
+-- The body of a number is one.
+pub code_same : {bytes : List ℕ} {code held end n a f t b g u : ℕ} → FirstSectionAt bytes 10 code held end → BodyAt bytes held n a f t → CodeAt bytes n b g u → (f ≡ g) × (t ≡ u)
+code_same {bytes} {code} {held} {end} {n} {a} {f} {t} {b} {g} {u} s x c =
+    let y : BodyAt bytes held n b g u = rw (section_same c.3 s) at c.4 in
+    let e = body_same x y in
+    (e.1, e.2)
+
+abbrev pub LocalsOf : List ℕ → List ℕ → Type 0
 LocalsOf held behind = (groups : ℕ) × Leaves (u32 groups ⨾ repeated (groups * 2) integer) held behind
 
-locals_one : {held x y : List ℕ} → LocalsOf held x → LocalsOf held y → x ≡ y
+pub locals_one : {held x y : List ℕ} → LocalsOf held x → LocalsOf held y → x ≡ y
 locals_one {held} {x} {y} h k =
     let a = apart h.1 in
     let b = apart k.1 in

@@ -195,7 +195,7 @@ numbers_some bytes id at count first other one (Some next) two =
     let h = joined one two in record { front = h.front; spelled = inr (other, count, h.spelled); split = h.split }
 
 -- the opcode is the byte there
-opcode_here : (bytes : List ℕ) (at b c : ℕ) {rest : List ℕ} → slice_get bytes at ≡ Some b → Leaves (operation c) (drop at bytes) rest → c ≡ b
+pub opcode_here : (bytes : List ℕ) (at b c : ℕ) {rest : List ℕ} → slice_get bytes at ≡ Some b → Leaves (operation c) (drop at bytes) rest → c ≡ b
 opcode_here bytes at b c {rest} found h = let o = opcode_of h in (free_byte.one c b (drop at bytes) o.0 (drop (at + 1) bytes) o.1 (byte_stands {bytes = bytes} {at = at} found).spelled).0
 
 pub no_table_labels : (bytes : List ℕ) (at b : ℕ) → slice_get bytes at ≡ Some b → b ≡ 0x0e → NoneBegins u32 (drop (at + 1) bytes) → NoneBegins operation (drop at bytes)

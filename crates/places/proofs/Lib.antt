@@ -5,3 +5,4 @@ pub mod LimitLaws
 pub mod NameLaws
 pub mod LengthLaws
 pub mod BodyLaws
+pub mod SpotLaws

@@ -4,4 +4,5 @@ pub mod Told
 pub mod Names
 pub mod Lengths
 pub mod Places
+pub mod Spots
 pub mod OperationNames

@@ -12,13 +12,13 @@ mod sizes;
 mod spans;
 
 pub use names::{function_name, is_object};
-pub use operations::{is_in_locals, name_of, place_of_operation};
+pub use operations::{Spot, is_in_locals, name_of, place_of_operation};
 pub use place::{Part, Place};
 pub use segments::first_newer;
 pub use shown::Shown;
 pub use sizes::{Sizes, sizes_of};
 pub use spans::{
     CODE, CutShort, DATA, ELEMENTS, EXPORTS, FUNCTIONS, GLOBALS, IMPORTS, MEMORIES, OPENING,
-    TABLES, TYPES, count_in, cut_short, is_in_count, part_with, place_of_function,
+    TABLES, TYPES, count_in, cut_short, function_of, is_in_count, part_with, place_of_function,
     place_of_section,
 };

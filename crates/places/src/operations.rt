@@ -1,17 +1,30 @@
 // The operations of a body that was decoded: their names, and by their lengths alone their places (WebAssembly Core 1.0,
 // 5.4, 5.5.13 and appendix, index of instructions; the sign extensions are those of WebAssembly Core 2.0).
 
-ghost use Rattle.std.specs.Prelude.{◌≡◌, ◌≤◌, ◌<◌, ◌*◌, ℕ, Some, drop, length, map, option_map, slice_get, IfSome, IfNone};
+ghost use Rattle.std.specs.Prelude.{◌≡◌, ◌≤◌, ◌<◌, ◌+◌, ◌*◌, ℕ, Some, [], ◌∷◌, drop, length, map, option_map, slice_get, IfSome, IfNone, OnSome};
+ghost use Rattle.limits.specs.declared.TheConstants.{MAX_NESTING};
 ghost use Rattle.syntax.specs.Language.{Leaves, u32, ◌⨾◌};
 ghost use Rattle.places.specs.Walks.{IsTheOne, LeavesNone, NoneBegins, repeated};
 ghost use Rattle.places.specs.Lengths.{integer, immediates_of, operation, IsInLocals};
 ghost use Rattle.places.specs.Places.{IsPlaceOfOperation};
 ghost use Rattle.places.specs.OperationNames.{name_at, name_of_opcode};
+ghost use Rattle.places.specs.Spots.{decoded_as, lacks_else, opened_by, IsSpot, IsUnspelled};
 
 use crate::index::NAMES;
 use crate::place::Place;
-use crate::spans::{CODE, Span, body_at, body_with, find, function_of, number_at};
+use crate::spans::{CODE, body_at, body_with, find, function_of, number_at};
 use limits::MAX_NESTING;
+use std::marker::Model;
+
+const BLOCK: u8 = 0x02;
+
+const LOOP: u8 = 0x03;
+
+const IF: u8 = 0x04;
+
+const ELSE: u8 = 0x05;
+
+const END: u8 = 0x0b;
 
 const BR_TABLE: u8 = 0x0e;
 
@@ -97,72 +110,116 @@ pub fn is_in_locals(bytes: &[u8], byte: usize) -> Option<bool>
 
 /// The blocks that are open, and of each whether it is an `if` whose `else` may still come.
 #[derive(Drop)]
-struct Open {
+struct Blocks {
     ifs: [bool; MAX_OPEN],
     depth: usize,
 }
 
-impl Open {
-    fn begin(&mut self, is_if: bool) {
-        if let Some(place) = self.ifs.get_mut(self.depth) {
-            *place = is_if;
-        }
-        self.depth = self.depth.saturating_add(1);
-    }
+impl Model for Blocks {
+    ghost use Rattle.std.specs.Prelude.{◌≤◌, ◌+◌, List, Bool};
+    ghost use Rattle.limits.specs.declared.TheConstants.{MAX_NESTING};
+    ghost use Rattle.places.specs.Spots.{latest};
 
-    /// Ends the innermost block. The answer is whether it was an `if` without an `else`.
-    fn end(&mut self) -> bool {
-        self.depth = self.depth.saturating_sub(1);
-        match self.ifs.get_mut(self.depth) {
-            Some(place) => {
-                let lacks_else = *place;
-                *place = false;
-                lacks_else
-            }
-            None => false,
-        }
-    }
+    ghost Value = { List Bool };
 
-    /// Goes past an operation. The answer is how many it is once decoded: the `end` of an `if` without an `else` is both.
-    fn pass(&mut self, opcode: u8) -> usize
-        ensures { 1 ≤ result }
+    ghost view = { λ a. latest a.ifs a.depth };
+
+    ghost invariant = { λ a. a.depth ≤ MAX_NESTING + 1 };
+}
+
+impl Blocks {
+    /// None are.
+    fn new() -> Blocks
+        ensures { result ≡ [] }
     {
-        match opcode {
-            0x02 | 0x03 => self.begin(false),
-            0x04 => self.begin(true),
-            0x05 => {
-                self.end();
-                self.begin(false);
-            }
-            0x0b => return if self.end() { 2 } else { 1 },
-            _ => {}
+        Blocks {
+            ifs: [false; MAX_OPEN],
+            depth: 0,
         }
-        1
+    }
+
+    fn are_few(&self)
+        ensures { length self.now ≤ MAX_NESTING + 1 }
+    {
+        let _ = &self.ifs;
+    }
+
+    /// Begins a block, with one operation, unless too many are open.
+    fn begin(&mut self, is_if: bool) -> Option<usize>
+        ensures one { IfSome result (λ n. n ≡ 1) }
+        ensures begun { OnSome result (self.new ≡ is_if ∷ self.old) }
+        ensures few { OnSome result (length self.new ≤ MAX_NESTING + 1) }
+        ensures full { IfNone result (MAX_NESTING + 1 ≤ length self.old) }
+    {
+        if self.depth >= MAX_OPEN {
+            return None;
+        }
+        self.ifs[self.depth] = is_if;
+        self.depth += 1;
+        Some(1)
+    }
+
+    /// Ends the innermost block. Whether it was an `if` without an `else`.
+    fn end(&mut self) -> bool
+        ensures left { self.new ≡ drop 1 self.old }
+        ensures few { length self.new ≤ MAX_NESTING + 1 }
+        ensures value { result ≡ lacks_else self.old }
+    {
+        if self.depth == 0 {
+            return false;
+        }
+        self.depth -= 1;
+        self.ifs[self.depth]
+    }
+
+    /// Goes past an instruction with this opcode. As how many operations it is decoded, unless too many blocks are open.
+    fn pass(&mut self, opcode: u8) -> Option<usize>
+        ensures count { IfSome result (λ n. n ≡ decoded_as opcode self.old) }
+        ensures left { OnSome result (self.new ≡ opened_by opcode self.old) }
+        ensures few { OnSome result (length self.new ≤ MAX_NESTING + 1) }
+        ensures none { IfNone result (MAX_NESTING + 1 < length (opened_by opcode self.old)) }
+    {
+        self.are_few();
+        match opcode {
+            BLOCK | LOOP => self.begin(false),
+            IF => self.begin(true),
+            ELSE => {
+                self.end();
+                self.begin(false)
+            }
+            END => Some(if self.end() { 2 } else { 1 }),
+            _ => Some(1),
+        }
     }
 }
 
-/// Where the decoded operation of this number begins in a body, and its number among those that are spelled there.
-fn spot_of(bytes: &[u8], body: Span, operation: usize) -> Option<(usize, usize)>
-    ensures within { IfSome result (λ spot. (body.from ≤ spot.0) × (spot.0 < body.to)) }
-    ensures few { IfSome result (λ spot. spot.1 ≤ operation) }
+/// An instruction of a body: at which byte of what the body holds it begins, its number there, and its opcode.
+#[derive(Clone, Copy)]
+pub struct Spot {
+    pub at: usize,
+    pub number: usize,
+    pub opcode: u8,
+}
+
+/// The instruction, in what a body holds, that is the operation of this index of the decoded body.
+fn spot_of(held: &[u8], index: usize) -> Option<Spot>
+    ensures spot { IsTheOne (IsSpot held.now index) result }
+    ensures within { IfSome result (λ spot. spot.at < length held.now) }
 {
-    let mut at = body
-        .from
-        .checked_add(first_operation(bytes.get(body.from..body.to)?)?)?;
-    let mut passed = 0usize;
-    let mut open = Open {
-        ifs: [false; MAX_OPEN],
-        depth: 0,
-    };
-    for number in 0..bytes.len() {
-        if at >= body.to {
+    let mut at = first_operation(held)?;
+    let mut left = index;
+    let mut blocks = Blocks::new();
+    for number in 0..held.len() {
+        if at >= held.len() {
             return None;
         }
-        passed = passed.saturating_add(open.pass(*bytes.get(at)?));
-        if passed > operation {
-            return Some((at, number));
+        let opcode = held[at];
+        let count = blocks.pass(opcode)?;
+        if left < count {
+            return Some(Spot { at, number, opcode });
         }
-        at = behind_operation(bytes, at)?;
+        left -= count;
+        at = behind_operation(held, at)?;
     }
     None
 }
@@ -185,16 +242,18 @@ fn name_among(names: &[Option<&'static str>], number: u8) -> Option<&'static str
 }
 
 /// The place of an operation of a function, by the function's number among those with bodies and the operation's in its body as it was
-/// decoded, where each `if` has an `else`. In the place the number is that among the operations that are spelled.
+/// decoded, where each `if` has an `else`. In the place the number is that among the instructions that are spelled. There is none where no
+/// instruction with a name is that operation.
 pub fn place_of_operation(bytes: &[u8], function: usize, operation: usize) -> Option<Place>
-    ensures { IfSome result (IsPlaceOfOperation bytes.now function operation) }
+    ensures place { IfSome result (IsPlaceOfOperation bytes.now function operation) }
+    ensures none { IfNone result (IsUnspelled bytes.now function operation) }
 {
     let body = body_at(bytes, find(bytes, CODE)?, function)?;
-    let (at, number) = spot_of(bytes, body, operation)?;
+    let spot = spot_of(&bytes[body.from..body.to], operation)?;
     Some(Place::Operation {
         function: function_of(bytes, function),
-        number,
-        name: name_of(*bytes.get(at)?)?,
-        at,
+        number: spot.number,
+        name: name_of(spot.opcode)?,
+        at: body.from + spot.at,
     })
 }

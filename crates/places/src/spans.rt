@@ -5,7 +5,7 @@ ghost use Rattle.syntax.specs.Language.{Leaves, counted, u32 as spells_u32};
 ghost use Rattle.syntax.specs.Binary.{Section, section};
 ghost use Rattle.places.specs.Spans.{StandsBetween, SectionAt, FirstSectionAt, BodyAt, NoBody};
 ghost use Rattle.places.specs.Walks.{IsTheOne, NoneBegins, FirstSection};
-ghost use Rattle.places.specs.Places.{IsPlaceOfSection, IsPlaceOfFunction, IsPartWith};
+ghost use Rattle.places.specs.Places.{IsNumberOf, IsPlaceOfSection, IsPlaceOfFunction, IsPartWith};
 ghost use Rattle.places.specs.Told.{BeginsWithCount, NoCount, IsCountIn, IsInCount, CutsShort, IsCutShort};
 
 use crate::place::{Part, Place};
@@ -179,11 +179,11 @@ pub fn cut_short(bytes: &[u8]) -> Option<CutShort>
 
 /// The body of this number in a code section.
 pub(crate) fn body_at(bytes: &[u8], code: Span, number: usize) -> Option<Span>
-    ensures { IfSome result (λ s. BodyAt bytes.now code.from number s.at s.from s.to) }
+    ensures body { IfSome result (λ s. BodyAt bytes.now code.from number s.at s.from s.to) }
+    ensures inside { IfSome result (λ s. (s.from ≤ s.to) × (s.to ≤ length bytes.now)) }
+    ensures none { IfNone result ((at from to : ℕ) → BodyAt bytes.now code.from number at from to → ⊥) }
 {
-    let Ok((count, mut at)) = read_u32(bytes, code.from) else {
-        return None;
-    };
+    let (count, mut at) = number_at(bytes, code.from)?;
     for index in 0..count {
         let span = sized(bytes, at, at)?;
         if index as usize == number {
@@ -206,7 +206,9 @@ pub fn count_in(bytes: &[u8], id: u8) -> u32
 
 /// The number of the function with this body. The imported functions are counted first: in the host's profile every import is a
 /// function.
-pub(crate) fn function_of(bytes: &[u8], body: usize) -> u64 {
+pub fn function_of(bytes: &[u8], body: usize) -> u64
+    ensures { IsNumberOf bytes.now body result }
+{
     u64::from(count_in(bytes, IMPORTS)).saturating_add(body as u64)
 }
 

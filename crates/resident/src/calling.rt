@@ -12,11 +12,11 @@ ghost use Rattle.resident.specs.Bare.{BeginsGoing, whole_going};
 ghost use Rattle.resident.specs.Slices.{CallGoesOn, CallIsOver, CallStandsAt, EndsCall, IsPausedAgain};
 ghost use Rattle.resident.specs.Underway.{HasCome, ComesTo, IsSomeCall, used_at, used_by};
 ghost use Rattle.interp.specs.Machines.{MachineFits};
-ghost use Rattle.resident.specs.Inner.Going.{call_underway, inside_call, last_at, on_machine, paused_at, resting};
+ghost use Rattle.resident.specs.Inner.Going.{call_underway, inside_call, last_at, on_machine, paused_at, at_rest};
 
-use crate::kept::{CallPlace, Kept};
+use crate::kept::{CallPlace, InstanceRoom};
 use crate::no_host::{NoHost, answer};
-use crate::resident::Resident;
+use crate::resident::{Resident, result_count};
 use events::ended::{BareEnded, BareEnding, Ended, Ending};
 use events::values::Values;
 use imports::Linked;
@@ -33,14 +33,9 @@ use validate::Valid;
 
 /// A call of an instance under way, between two slices, with the instance. It may be kept, given to another thread, or dropped at any
 /// time. An import is asked in the first slice.
+#[derive(Drop)]
 pub struct Calling {
-    kept: Box<Kept, Global>,
-}
-
-impl Drop for Calling {
-    fn drop(self) {
-        let Calling { kept: _ } = self;
-    }
+    kept: Box<InstanceRoom, Global>,
 }
 
 impl Model for Calling {
@@ -136,7 +131,7 @@ fn go_on_call(
 ) -> Option<Ended>
     requires runs { MachineFits valid.now.contents machine.old }
     requires some { IsSomeCall (inside_call valid.now state.old machine.old slice.old.paused) }
-    ensures over { IfSome result (CallIsOver (inside_call valid.now state.old machine.old slice.old.paused) slice.old.units (resting valid.now state.new machine.new)) }
+    ensures over { IfSome result (CallIsOver (inside_call valid.now state.old machine.old slice.old.paused) slice.old.units (at_rest valid.now state.new machine.new)) }
     ensures paused { result ≡ None → IsPausedAgain (inside_call valid.now state.old machine.old slice.old.paused) slice.old.units
         (inside_call valid.now state.new machine.new slice.new.paused) }
     ensures runs { MachineFits valid.now.contents machine.new }
@@ -158,7 +153,7 @@ fn go_on_call_into(
     requires runs { MachineFits valid.now.contents machine.old }
     requires some { IsSomeCall (inside_call valid.now state.old machine.old slice.old.paused) }
     requires room { result_count valid.now.contents slice.old.paused.function ≤ length results.old }
-    ensures over { IfSome result (λ ended. CallIsOver (inside_call valid.now state.old machine.old slice.old.paused) slice.old.units (resting valid.now state.new machine.new)
+    ensures over { IfSome result (λ ended. CallIsOver (inside_call valid.now state.old machine.old slice.old.paused) slice.old.units (at_rest valid.now state.new machine.new)
         (ended_in valid.now.contents slice.old.paused.function ended results.new)) }
     ensures paused { result ≡ None → IsPausedAgain (inside_call valid.now state.old machine.old slice.old.paused) slice.old.units
         (inside_call valid.now state.new machine.new slice.new.paused) }
@@ -195,7 +190,7 @@ impl Resident {
             depth,
         };
         let mut kept = self.into_kept();
-        let Kept {
+        let InstanceRoom {
             linked,
             state,
             machine,
@@ -266,6 +261,13 @@ impl Calling {
         }
     }
 
+    /// How many results its function has.
+    pub fn results(&self) -> usize
+        ensures { result ≡ result_count self.now.loaded.contents self.now.function }
+    {
+        result_count(self.kept.linked.valid(), self.kept.place.function())
+    }
+
     /// Its module.
     pub fn linked(&self) -> &Linked
         ensures { result.now ≡ self.now.loaded }
@@ -295,7 +297,7 @@ impl Calling {
     {
         let Calling { kept } = self;
         let mut kept = kept;
-        let Kept {
+        let InstanceRoom {
             linked: _,
             state: _,
             machine,
@@ -348,7 +350,7 @@ impl Calling {
     {
         let Calling { kept } = self;
         let mut kept = kept;
-        let Kept {
+        let InstanceRoom {
             linked,
             state,
             machine,
@@ -374,7 +376,7 @@ impl Calling {
     {
         let Calling { kept } = self;
         let mut kept = kept;
-        let Kept {
+        let InstanceRoom {
             linked,
             state,
             machine,

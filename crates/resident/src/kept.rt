@@ -1,5 +1,8 @@
 // An instance with the machine of its calls, in one room.
 
+ghost use Rattle.std.specs.Prelude.{◌≡◌};
+ghost use Rattle.resident.specs.Inner.Going.{called_function};
+
 use imports::Linked;
 use instance::state::State;
 use interp::machine::Machine;
@@ -16,10 +19,22 @@ pub(crate) enum CallPlace {
     Inside(Paused),
 }
 
+impl CallPlace {
+    /// The function that is called.
+    pub(crate) fn function(&self) -> u32
+        ensures { result ≡ called_function self.now }
+    {
+        match self {
+            CallPlace::Import(function, _) => *function,
+            CallPlace::Inside(paused) => paused.function(),
+        }
+    }
+}
+
 /// An instance, the machine on which its calls run, and where the last one in slices goes on that was not over at once. It stays where it is
 /// from call to call and from slice to slice.
 #[derive(Drop)]
-pub(crate) struct Kept {
+pub(crate) struct InstanceRoom {
     pub linked: Arc<Linked, Global>,
     pub state: State,
     pub machine: Machine,

@@ -10,12 +10,12 @@ ghost use Rattle.instance.specs.Fresh.{IsFresh};
 ghost use Rattle.instance.specs.Storing.{IsStoreOf};
 ghost use Rattle.reduction.specs.Invoking.{TakesArguments};
 ghost use Rattle.interp.specs.Lent.{result_count, ended_in};
-ghost use Rattle.resident.specs.Inner.Going.{resting, IsResting};
+ghost use Rattle.resident.specs.Inner.Going.{at_rest, IsResting};
 ghost use Rattle.resident.specs.Numbered.{HasNoType, ExportsAt, ExportsNoFunctionAt};
 ghost use Rattle.resident.specs.Calls.{CallsInstance, IsNew, StartsInstance, ExportsFirst, ExportsNoFunction, ExportsGlobal, ExportsNoGlobal};
 
 use crate::exported::{exported_function, exported_global, function_at, type_of};
-use crate::kept::{CallPlace, Kept};
+use crate::kept::{CallPlace, InstanceRoom};
 use crate::no_host::NoHost;
 use events::ended::{BareEnded, Ended, Ending};
 use events::values::Values;
@@ -36,14 +36,9 @@ use syntax::types::Value;
 use validate::{Valid, type_of_function};
 
 /// An instance of a module that is kept from call to call, with its module. Every import answers -1.
+#[derive(Drop)]
 pub struct Resident {
-    kept: Box<Kept, Global>,
-}
-
-impl Drop for Resident {
-    fn drop(self) {
-        let Resident { kept: _ } = self;
-    }
+    kept: Box<InstanceRoom, Global>,
 }
 
 impl Model for Resident {
@@ -51,13 +46,13 @@ impl Model for Resident {
     ghost use Rattle.std.specs.Arc.{arc_value};
     ghost use Rattle.syntax.specs.Loaded.{loaded_coded};
     ghost use Rattle.resident.specs.Calls.{KeptInstance};
-    ghost use Rattle.resident.specs.Inner.Going.{resting, IsResting};
+    ghost use Rattle.resident.specs.Inner.Going.{at_rest, IsResting};
 
     ghost Value = { KeptInstance };
 
     ghost coded = { Prim.hlevel (codes, loaded_coded) };
 
-    ghost view = { λ r. resting (arc_value r.kept.value.linked) r.kept.value.state r.kept.value.machine };
+    ghost view = { λ r. at_rest (arc_value r.kept.value.linked) r.kept.value.state r.kept.value.machine };
 
     ghost invariant = { λ r. IsResting (arc_value r.kept.value.linked) r.kept.value.state r.kept.value.machine };
 }
@@ -76,7 +71,7 @@ fn new_instance(alloc: Global, linked: &Linked) -> Result<Instance, AllocError>
 }
 
 /// How many results a function has: no more than there may be.
-fn result_count(valid: &Valid, function: u32) -> usize
+pub(crate) fn result_count(valid: &Valid, function: u32) -> usize
     ensures count { result ≡ result_count valid.now.contents function }
     ensures few { result ≤ MAX_RESULTS }
 {
@@ -91,9 +86,9 @@ impl Resident {
     pub fn new(alloc: Global, linked: Arc<Linked, Global>) -> Result<Resident, AllocError>
         ensures { IfOk result (IsNew (arc_value linked)) }
     {
-        let machine = Machine::new(alloc, linked.valid())?;
-        let (state, _stack) = new_instance(alloc, &linked)?.into_parts();
-        let kept = Kept {
+        let (state, stack) = new_instance(alloc, &linked)?.into_parts();
+        let machine = Machine::of(linked.valid(), stack)?;
+        let kept = InstanceRoom {
             linked,
             state,
             machine,
@@ -135,17 +130,17 @@ impl Resident {
     }
 
     /// An instance that is in no call.
-    pub(crate) fn of(kept: Box<Kept, Global>) -> Resident
+    pub(crate) fn of(kept: Box<InstanceRoom, Global>) -> Resident
         requires { IsResting (arc_value kept.value.linked) kept.value.state kept.value.machine }
-        ensures { result ≡ resting (arc_value kept.value.linked) kept.value.state kept.value.machine }
+        ensures { result ≡ at_rest (arc_value kept.value.linked) kept.value.state kept.value.machine }
     {
         Resident { kept }
     }
 
     /// Its parts.
-    pub(crate) fn into_kept(self) -> Box<Kept, Global>
-        ensures same { self ≡ resting (arc_value result.value.linked) result.value.state result.value.machine }
-        ensures resting { IsResting (arc_value result.value.linked) result.value.state result.value.machine }
+    pub(crate) fn into_kept(self) -> Box<InstanceRoom, Global>
+        ensures same { self ≡ at_rest (arc_value result.value.linked) result.value.state result.value.machine }
+        ensures at_rest { IsResting (arc_value result.value.linked) result.value.state result.value.machine }
     {
         let Resident { kept } = self;
         kept
@@ -180,7 +175,7 @@ impl Resident {
         requires depth { (1 ≤ depth) × (depth ≤ MAX_DEPTH) }
         ensures { CallsInstance self.old depth fuel function args.now (ended_in self.old.loaded.contents function result results.new) self.new }
     {
-        let Kept {
+        let InstanceRoom {
             linked,
             state,
             machine,

@@ -16,7 +16,7 @@ pub struct LoopPlan {
 }
 
 /// What a script asks for: a world, and the steps that it is to take.
-#[derive(Debug)]
+#[derive(Debug, Drop)]
 pub struct Plan {
     /// The bytes of each module.
     pub modules: Vec<Vec<u8>>,
@@ -26,17 +26,6 @@ pub struct Plan {
     pub workers: u32,
     /// The steps, the first one first.
     pub steps: Vec<Step>,
-}
-
-impl Drop for Plan {
-    fn drop(self) {
-        let Plan {
-            modules: _,
-            loops: _,
-            workers: _,
-            steps: _,
-        } = self;
-    }
 }
 
 impl Plan {

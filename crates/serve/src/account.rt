@@ -23,6 +23,7 @@ pub struct Callback {
 }
 
 /// What a loop did last, and what its callbacks and its work functions used. No clause speaks of it, so contracts see nothing of it.
+#[derive(Drop)]
 pub struct Account {
     last: Option<Callback>,
     in_row: u32,
@@ -33,22 +34,6 @@ pub struct Account {
     asyncs: Vec<u32>,
     undone: Vec<Order>,
     refused: u64,
-}
-
-impl Drop for Account {
-    fn drop(self) {
-        let Account {
-            last: _,
-            in_row: _,
-            stopped: _,
-            most_used: _,
-            work: _,
-            now: _,
-            asyncs: _,
-            undone: _,
-            refused: _,
-        } = self;
-    }
 }
 
 impl Model for Account {

@@ -12,7 +12,7 @@ use crate::place::WorkerPlace;
 use crate::service::Service;
 use crate::watch::Watch;
 use board::{Board, Pass};
-use claims::{Claims, Gathering, LoopSeat, WorkerSeat};
+use claims::{Claims, CrewSeat, LoopSeat, WorkerSeat};
 use std::alloc::AllocError;
 use std::sync::Wait;
 use std::thread::{Promise, PromisedHandle, Scope, Threads};
@@ -127,7 +127,7 @@ pub fn gather_seats(claims: &Claims, mut seats: Vec<WorkerSeat>) -> WorkerSeat
 /// Shows each loop what the workers have started, and gives their seat back.
 pub fn settle_loops(
     claims: &Claims,
-    mut gathering: Gathering,
+    mut gathering: CrewSeat,
     crew: WorkerSeat,
     mut seats: Vec<LoopSeat>,
 ) -> WorkerSeat
@@ -142,5 +142,5 @@ pub fn settle_loops(
     while let Some(mut seat) = seats.pop() {
         gathering = claims.settle(gathering, &mut seat);
     }
-    claims.crew(gathering)
+    claims.as_worker(gathering)
 }

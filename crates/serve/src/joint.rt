@@ -6,8 +6,9 @@ ghost use Rattle.claims.specs.Views.{AreNewLoops, AreNewWorkers, new_worker_view
 ghost use Rattle.board.specs.Boards.{IsNewGathering};
 ghost use Rattle.serve.specs.Answers.{EachServed};
 ghost use Rattle.serve.specs.Histories.{setting_at};
-ghost use Rattle.serve.specs.Inner.Ends.{LoopEnds, WorkerEnds};
-ghost use Rattle.serve.specs.Inner.Places.{EachPair, EachThree};
+ghost use Rattle.serve.specs.Inner.Ends.{EachLoopEnds, WorkerEnds};
+ghost use Rattle.serve.specs.Inner.Places.{EachPair};
+ghost use Rattle.serve.specs.Inner.Promises.{planned};
 ghost use Rattle.serve.specs.Joint.{JointRun};
 
 use crate::crew::{gather_seats, settle_loops};
@@ -22,7 +23,7 @@ use crate::task::Task;
 use crate::threads::{ThreadsEnded, run_all};
 use crate::watch::{Nobody, Watch};
 use board::{Board, Gathering};
-use claims::{Claims, LoopSeat, NewClaims, WorkerSeat};
+use claims::{Claims, CrewSeat, LoopSeat, NewClaims, WorkerSeat};
 use imports::Linked;
 use std::alloc::{AllocError, Global};
 use std::sync::{Arc, Wait};
@@ -126,7 +127,7 @@ fn with_claims<
     ensures each { IfOk result (λ all. EachServed (arc_value plan.now.linked) plan.now.serving all.served.items) }
     ensures joint { IfOk result (λ all. ∥ JointRun (arc_value plan.now.linked) plan.now.serving all.served.items all.crew ∥₁) }
 {
-    let (new, crew) = Claims::with_gathering(plan.alloc, plan.serving.loops, plan.serving.workers)?;
+    let (new, crew) = Claims::with_crew(plan.alloc, plan.serving.loops, plan.serving.workers)?;
     let NewClaims {
         claims,
         loop_seats,
@@ -145,7 +146,7 @@ fn with_board<
     service: &Service<'_, R, M, W>,
     plan: &ServicePlan,
     claims: &Claims,
-    crew: claims::Gathering,
+    crew: CrewSeat,
     loop_seats: Vec<LoopSeat>,
     worker_seats: Vec<WorkerSeat>,
 ) -> Result<JointlyServed, AllocError>
@@ -171,14 +172,14 @@ fn gathered<J: Job>(
     board: &Board<J>,
     claims: &Claims,
     gathering: Gathering<J>,
-    crew: claims::Gathering,
+    crew: CrewSeat,
     ended: ThreadsEnded<J>,
 ) -> Result<JointlyServed, AllocError>
     requires loops { (length board.now.replies ≡ plan.now.serving.loops) × (claims.now.loops ≡ plan.now.serving.loops) }
     requires gathering { IsNewGathering board.now (plan.now.serving.loops + plan.now.serving.workers) gathering }
     requires crew { crew ≡ new_worker_view claims.now.id 0 }
     requires loops_count { length ended.served.items ≡ plan.now.serving.loops }
-    requires loops_end { EachThree (λ k s p q. LoopEnds J.ticket board.now claims.now.id (setting_at (arc_value plan.now.linked) plan.now.serving k) s p q) 0 ended.served.items ended.loops.items ended.loop_seats.items }
+    requires loops_end { EachLoopEnds J.ticket board.now claims.now.id (planned plan.now) ended.served.items ended.loops.items ended.loop_seats.items }
     requires workers_count { length ended.workers.items ≡ plan.now.serving.workers }
     requires workers_end { EachPair (WorkerEnds J.ticket board.now claims.now) 0 ended.workers.items ended.seats.items }
     ensures count { IfOk result (λ all. length all.served.items ≡ plan.now.serving.loops) }

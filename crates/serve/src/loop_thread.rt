@@ -44,7 +44,7 @@ impl<'a, J: Job> LoopThread<'a, J> {
     ghost use Rattle.marks.specs.Counts.{new_taker};
     ghost use Rattle.serve.specs.Histories.{EndsBy, IsDrained, setting_at, thread_calls};
     ghost use Rattle.serve.specs.Inner.Ends.{LoopEnds};
-    ghost use Rattle.serve.specs.Inner.Threads.{CanGoOn, HandsOutNone, HasTied, jobs_in, IsTiedSoFar, KeepsGoing, ComesServing};
+    ghost use Rattle.serve.specs.Inner.Threads.{CanGoOn, HandsOutNone, HasTied, jobs_of, IsTiedSoFar, KeepsGoing, ComesServing};
     ghost use Rattle.serve.specs.Inner.Turns.{IsAtTurn};
 
     /// A loop that has done nothing, over a new instance of the module.
@@ -255,7 +255,7 @@ impl<'a, J: Job> LoopThread<'a, J> {
         ensures keeps { KeepsGoing J.ticket self.old self.new }
         ensures none { self.new.kept ≡ None }
         ensures over { IfOk result (λ next. next ≡ None → HandsOutNone self.new.recorded) }
-        ensures told { IfOk result (λ next. IsTiedSoFar J.ticket self.old → ∥ HasTied J.ticket self.new (jobs_in next) ∥₁) }
+        ensures told { IfOk result (λ next. IsTiedSoFar J.ticket self.old → ∥ HasTied J.ticket self.new (jobs_of next) ∥₁) }
     {
         if let Some(job) = self.kept.take() {
             return Ok(Some(Some(job)));

@@ -6,14 +6,9 @@ use std::sync::atomic::{AtomicU64, Ordering};
 
 /// The greatest number of units of fuel that a work function of one loop used. The loop and its tasks share it. Where nobody
 /// asks for it, nothing is kept.
+#[derive(Drop)]
 pub struct Meter {
     most: Option<Arc<AtomicU64>>,
-}
-
-impl Drop for Meter {
-    fn drop(self) {
-        let Meter { most: _ } = self;
-    }
 }
 
 impl Meter {

@@ -35,6 +35,7 @@ impl LoopEnding {
 ///
 /// A loop of this number has a history from its opening, over its seats, in which its callbacks emitted just this, and
 /// at whose end it has ended so.
+#[derive(Drop)]
 pub struct Served {
     /// The loop's number, from 0.
     pub loop_no: u32,
@@ -60,18 +61,6 @@ impl Served {
             trail: _,
         } = self;
         account.into_undone()
-    }
-}
-
-impl Drop for Served {
-    fn drop(self) {
-        let Served {
-            loop_no: _,
-            ending: _,
-            emits: _,
-            account: _,
-            trail: _,
-        } = self;
     }
 }
 

@@ -15,20 +15,11 @@ use std::marker::Model;
 use std::sync::Arc;
 
 /// An order that can be run, of a loop and a slot that can be. To a contract it is the order.
+#[derive(Drop)]
 pub struct Task {
     order: Order,
     meter: Meter,
     rooms: Arc<Rooms>,
-}
-
-impl Drop for Task {
-    fn drop(self) {
-        let Task {
-            order: _,
-            meter: _,
-            rooms: _,
-        } = self;
-    }
 }
 
 impl Model for Task {

@@ -1,12 +1,10 @@
 // The threads of the loops and the workers.
 
 ghost use Rattle.std.specs.Prelude.{◌≡◌, ◌≤◌, [], length, vec_capacity, IfOk, OnOk};
-ghost use Rattle.std.specs.Arc.{arc_value};
 ghost use Rattle.std.specs.Thread.{IsSync};
-ghost use Rattle.serve.specs.Histories.{setting_at};
 ghost use Rattle.serve.specs.Inner.Ends.{LoopEnds, EachLoopEnds, WorkerEnds};
-ghost use Rattle.serve.specs.Inner.Places.{EachFrom, EachDown, EachPair, EachThree};
-ghost use Rattle.serve.specs.Inner.Promises.{IsThreadOf};
+ghost use Rattle.serve.specs.Inner.Places.{EachFrom, EachDown, EachPair};
+ghost use Rattle.serve.specs.Inner.Promises.{IsThreadOf, planned};
 
 use crate::crew::{join_workers, start_workers};
 use crate::job::Job;
@@ -38,6 +36,15 @@ pub struct ThreadsEnded<J> {
     pub seats: Vec<WorkerSeat>,
 }
 
+/// What the loops' threads have given back.
+#[derive(Drop)]
+struct LoopsEnded<J> {
+    /// What each loop did.
+    served: Vec<Served>,
+    passes: Vec<Pass<J>>,
+    seats: Vec<LoopSeat>,
+}
+
 /// The handle of a loop's thread.
 type LoopHandle<'s, J> = PromisedHandle<LoopResult<J>, ThreadOfLoop<'s, J>>;
 
@@ -60,7 +67,7 @@ pub fn run_all<
     requires workers { EachDown (λ w p. (p.board.now ≡ board.now) × (p.claims.now ≡ claims.now) × (p.seat.worker_no ≡ w)) (length workers.items) workers.items }
     requires loops { EachDown (λ k p. (p.board.now ≡ board.now) × (p.claims.now ≡ claims.now) × (p.seat.loop_no ≡ k)) (length loops.items) loops.items }
     ensures loops_count { IfOk result (λ r. length r.served.items ≡ length loops.entry.items) }
-    ensures loops { IfOk result (λ r. EachThree (λ k s p q. LoopEnds J.ticket board.now claims.now.id (setting_at (arc_value plan.now.linked) plan.now.serving k) s p q) 0 r.served.items r.loops.items r.loop_seats.items) }
+    ensures loops { IfOk result (λ r. EachLoopEnds J.ticket board.now claims.now.id (planned plan.now) r.served.items r.loops.items r.loop_seats.items) }
     ensures workers_count { IfOk result (λ r. length r.workers.items ≡ length workers.entry.items) }
     ensures workers { IfOk result (λ r. EachPair (WorkerEnds J.ticket board.now claims.now) 0 r.workers.items r.seats.items) }
 {
@@ -73,7 +80,7 @@ pub fn run_all<
             requires workers { EachDown (λ w p. (p.board.now ≡ board.now) × (p.claims.now ≡ claims.now) × (p.seat.worker_no ≡ w)) (length workers.items) workers.items }
             requires loops { EachDown (λ k p. (p.board.now ≡ board.now) × (p.claims.now ≡ claims.now) × (p.seat.loop_no ≡ k)) (length loops.items) loops.items }
             ensures loops_count { IfOk result (λ r. length r.served.items ≡ length loops.entry.items) }
-            ensures loops { IfOk result (λ r. EachLoopEnds J.ticket board.entry.now claims.entry.now.id (setting_at (arc_value plan.entry.now.linked) plan.entry.now.serving) r.served.items r.loops.items r.loop_seats.items) }
+            ensures loops { IfOk result (λ r. EachLoopEnds J.ticket board.entry.now claims.entry.now.id (planned plan.entry.now) r.served.items r.loops.items r.loop_seats.items) }
             ensures workers_count { IfOk result (λ r. length r.workers.items ≡ length workers.entry.items) }
             ensures workers { IfOk result (λ r. EachPair (WorkerEnds J.ticket board.entry.now claims.entry.now) 0 r.workers.items r.seats.items) }
         { run_in(scope, service, plan, board, claims, workers, loops) },
@@ -102,7 +109,7 @@ fn run_in<
     requires workers { EachDown (λ w p. (p.board.now ≡ board.now) × (p.claims.now ≡ claims.now) × (p.seat.worker_no ≡ w)) (length workers.items) workers.items }
     requires loops { EachDown (λ k p. (p.board.now ≡ board.now) × (p.claims.now ≡ claims.now) × (p.seat.loop_no ≡ k)) (length loops.items) loops.items }
     ensures loops_count { IfOk result (λ r. length r.served.items ≡ length loops.entry.items) }
-    ensures loops { IfOk result (λ r. EachThree (λ k s p q. LoopEnds J.ticket board.now claims.now.id (setting_at (arc_value plan.now.linked) plan.now.serving k) s p q) 0 r.served.items r.loops.items r.loop_seats.items) }
+    ensures loops { IfOk result (λ r. EachLoopEnds J.ticket board.now claims.now.id (planned plan.now) r.served.items r.loops.items r.loop_seats.items) }
     ensures workers_count { IfOk result (λ r. length r.workers.items ≡ length workers.entry.items) }
     ensures workers { IfOk result (λ r. EachPair (WorkerEnds J.ticket board.now claims.now) 0 r.workers.items r.seats.items) }
 {
@@ -114,7 +121,11 @@ fn run_in<
         Err(AllocError) => Err(AllocError),
     };
     board.close();
-    let (served, loops, loop_seats) = outcome?;
+    let LoopsEnded {
+        served,
+        passes: loops,
+        seats: loop_seats,
+    } = outcome?;
     join_workers(service.rt, board, claims, crew, &mut passes, &mut seats);
     Ok(ThreadsEnded {
         served,
@@ -140,31 +151,24 @@ fn run_loops<
     board: &Board<J>,
     claims: &Claims,
     places: Vec<LoopPlace<'s, J>>,
-) -> Result<(Vec<Served>, Vec<Pass<J>>, Vec<LoopSeat>), AllocError>
+) -> Result<LoopsEnded<J>, AllocError>
     requires make { M.IsAlwaysCallable service.now.make.now }
     requires sync { IsSync R.row × IsSync M.row × IsSync W.row }
     requires each { EachDown (λ k p. (p.board.now ≡ board.now) × (p.claims.now ≡ claims.now) × (p.seat.loop_no ≡ k)) (length places.items) places.items }
-    ensures count { IfOk result (λ r. length r.0.items ≡ length places.entry.items) }
-    ensures each { IfOk result (λ r. EachThree (λ k s p q. LoopEnds J.ticket board.now claims.now.id (setting_at (arc_value plan.now.linked) plan.now.serving k) s p q) 0 r.0.items r.1.items r.2.items) }
+    ensures count { IfOk result (λ r. length r.served.items ≡ length places.entry.items) }
+    ensures each { IfOk result (λ r. EachLoopEnds J.ticket board.now claims.now.id (planned plan.now) r.served.items r.passes.items r.seats.items) }
 {
     let mut started = Vec::with_capacity(plan.alloc, places.len())?;
-    let mut served = Vec::with_capacity(plan.alloc, places.len())?;
-    let mut passes = Vec::with_capacity(plan.alloc, places.len())?;
-    let mut seats = Vec::with_capacity(plan.alloc, places.len())?;
+    let mut ended = LoopsEnded {
+        served: Vec::with_capacity(plan.alloc, places.len())?,
+        passes: Vec::with_capacity(plan.alloc, places.len())?,
+        seats: Vec::with_capacity(plan.alloc, places.len())?,
+    };
     let starting = start_loops(scope, service, plan, board, claims, places, &mut started);
-    let ending = join_loops(
-        service.rt,
-        plan,
-        board,
-        claims,
-        started,
-        &mut served,
-        &mut passes,
-        &mut seats,
-    );
+    let ending = join_loops(service.rt, plan, board, claims, started, &mut ended);
     starting?;
     ending?;
-    Ok((served, passes, seats))
+    Ok(ended)
 }
 
 /// A thread for each loop, the first loop's first, until memory runs out.
@@ -233,7 +237,7 @@ fn start_loop<
         move || -> LoopResult<J>
             requires make { M.IsAlwaysCallable service.now.make.now }
             requires sync { IsSync R.row × IsSync M.row × IsSync W.row }
-            ensures { IfOk result (λ r. LoopEnds J.ticket place.entry.board.now place.entry.claims.now.id (setting_at (arc_value plan.entry.now.linked) plan.entry.now.serving place.entry.seat.loop_no) r.0 r.1 r.2) }
+            ensures { IfOk result (λ r. LoopEnds J.ticket place.entry.board.now place.entry.claims.now.id (planned plan.entry.now place.entry.seat.loop_no) r.0 r.1 r.2) }
         { plan.run(service, place) },
     )?;
     Ok(thread)
@@ -246,23 +250,21 @@ fn join_loops<'s, R: Threads, J: Job>(
     board: &Board<J>,
     claims: &Claims,
     started: Vec<LoopHandle<'s, J>>,
-    served: &mut Vec<Served>,
-    passes: &mut Vec<Pass<J>>,
-    seats: &mut Vec<LoopSeat>,
+    ended: &mut LoopsEnded<J>,
 ) -> Result<(), AllocError>
-    requires room { (length started.items ≤ vec_capacity served.old) × (length started.items ≤ vec_capacity passes.old) × (length started.items ≤ vec_capacity seats.old) }
-    requires none { (served.old.items ≡ []) × (passes.old.items ≡ []) × (seats.old.items ≡ []) }
+    requires room { (length started.items ≤ vec_capacity ended.old.served) × (length started.items ≤ vec_capacity ended.old.passes) × (length started.items ≤ vec_capacity ended.old.seats) }
+    requires none { (ended.old.served.items ≡ []) × (ended.old.passes.items ≡ []) × (ended.old.seats.items ≡ []) }
     requires promised { EachFrom (λ k h. IsThreadOf plan.now board.now claims.now k h.promise) 0 started.items }
-    ensures count { OnOk result (length served.new.items ≡ length started.entry.items) }
-    ensures each { OnOk result (EachThree (λ k s p q. LoopEnds J.ticket board.now claims.now.id (setting_at (arc_value plan.now.linked) plan.now.serving k) s p q) 0 served.new.items passes.new.items seats.new.items) }
+    ensures count { OnOk result (length ended.new.served.items ≡ length started.entry.items) }
+    ensures each { OnOk result (EachLoopEnds J.ticket board.now claims.now.id (planned plan.now) ended.new.served.items ended.new.passes.items ended.new.seats.items) }
 {
     let mut ending = Ok(());
     for thread in started {
         match thread.join(rt) {
             Ok((one, pass, seat)) => {
-                served.push_reserved(one);
-                passes.push_reserved(pass);
-                seats.push_reserved(seat);
+                ended.served.push_reserved(one);
+                ended.passes.push_reserved(pass);
+                ended.seats.push_reserved(seat);
             }
             Err(AllocError) => ending = Err(AllocError),
         }

@@ -22,17 +22,12 @@ pub enum KeptInitializer {
 }
 
 /// An initializer: an expression that is mostly one constant, and then takes no memory of its own. Contracts see the tree.
+#[derive(Drop)]
 pub struct Initializer {
     kept: KeptInitializer,
 }
 
 const _: () = prove!(size_of::<Initializer>() <= 16);
-
-impl Drop for Initializer {
-    fn drop(self) {
-        let Initializer { kept: _ } = self;
-    }
-}
 
 impl Model for Initializer {
     ghost use Rattle.syntax.specs.Code.{Code, code_coded};

@@ -6,20 +6,11 @@ use std::sync::atomic::{AtomicU64, Ordering};
 use test_fixtures::comes;
 
 /// How many are wanted, how many came, and whether one of them waited in vain.
+#[derive(Drop)]
 pub struct Meeting {
     wanted: u64,
     came: Arc<AtomicU64>,
     in_vain: Arc<AtomicU64>,
-}
-
-impl Drop for Meeting {
-    fn drop(self) {
-        let Meeting {
-            wanted: _,
-            came: _,
-            in_vain: _,
-        } = self;
-    }
 }
 
 impl Meeting {

@@ -21,18 +21,10 @@ use test_fixtures::{comes, linked_of};
 const MANY: u64 = 1000;
 
 /// How many steps the loops took, and the sum of the moments to which their clocks were raised.
+#[derive(Drop)]
 struct Seen {
     steps: Arc<AtomicU64>,
     clocks: AtomicU64,
-}
-
-impl Drop for Seen {
-    fn drop(self) {
-        let Seen {
-            steps: _,
-            clocks: _,
-        } = self;
-    }
 }
 
 impl Seen {

@@ -50,6 +50,7 @@ const PLACES: u32 = 512;
 
 /// How far each request of two loops has come, how many were begun, dropped and collected, how often one was reported out of
 /// its order, and how many timers' callbacks ran.
+#[derive(Drop)]
 struct Stages {
     stages: Vec<AtomicU64>,
     begun: AtomicU64,
@@ -57,19 +58,6 @@ struct Stages {
     collected: AtomicU64,
     wrong: AtomicU64,
     timers: Arc<AtomicU64>,
-}
-
-impl Drop for Stages {
-    fn drop(self) {
-        let Stages {
-            stages: _,
-            begun: _,
-            dropped: _,
-            collected: _,
-            wrong: _,
-            timers: _,
-        } = self;
-    }
 }
 
 impl Stages {

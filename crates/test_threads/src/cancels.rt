@@ -19,22 +19,12 @@ use std::thread::Threads;
 use test_fixtures::comes;
 
 /// Holds a worker at one point until it is let go.
+#[derive(Drop)]
 struct HoldAt {
     point: Point,
     reached: AtomicU64,
     let_go: AtomicU64,
     ran_out: AtomicU64,
-}
-
-impl Drop for HoldAt {
-    fn drop(self) {
-        let HoldAt {
-            point: _,
-            reached: _,
-            let_go: _,
-            ran_out: _,
-        } = self;
-    }
 }
 
 impl HoldAt {

@@ -17,26 +17,16 @@ use std::thread::{Promise, Threads};
 const ROUNDS: u32 = 1_000;
 
 /// A thread gives a loop's seat back with the requests that it had opened.
+#[derive(Drop)]
 struct SameLoop(Snapshot<LoopSeat>);
-
-impl Drop for SameLoop {
-    fn drop(self) {
-        let SameLoop(_) = self;
-    }
-}
 
 impl Promise<(bool, LoopSeat)> for SameLoop {
     ghost kept_by = { λ p r. (r.1.claims ≡ p.0.value.claims) × (r.1.loop_no ≡ p.0.value.loop_no) × (r.1.opened ≡ p.0.value.opened) };
 }
 
 /// A thread gives a worker's seat of the same claims back.
+#[derive(Drop)]
 struct SameWorker(Snapshot<WorkerSeat>);
-
-impl Drop for SameWorker {
-    fn drop(self) {
-        let SameWorker(_) = self;
-    }
-}
 
 impl Promise<(bool, WorkerSeat)> for SameWorker {
     ghost kept_by = { λ p r. r.1.claims ≡ p.0.value.claims };

@@ -30,19 +30,11 @@ pub fn ticket(request: u32) -> Ticket
 }
 
 /// What one loop and its workers share.
+#[derive(Drop)]
 pub struct Hall {
     pub board: Board,
     pub claims: Claims,
     ghost loops: { (length board.replies ≡ 1) × (claims.loops ≡ 1) },
-}
-
-impl Drop for Hall {
-    fn drop(self) {
-        let Hall {
-            board: _,
-            claims: _,
-        } = self;
-    }
 }
 
 /// What a new hall hands out.
@@ -144,22 +136,13 @@ impl Hall {
 }
 
 /// The passes and seats that no worker has yet.
+#[derive(Drop)]
 pub struct Spares<'a> {
     hall: &'a Hall,
     passes: Vec<Pass>,
     seats: Vec<WorkerSeat>,
     ghost passes_own: { All (IsPassOf hall.now.board) passes.items },
     ghost seats_own: { All (λ s. s.claims ≡ hall.now.claims.id) seats.items },
-}
-
-impl Drop for Spares<'_> {
-    fn drop(self) {
-        let Spares {
-            hall: _,
-            passes: _,
-            seats: _,
-        } = self;
-    }
 }
 
 impl<'a> Spares<'a> {
@@ -200,6 +183,7 @@ fn end_of(did: WorkerDid) -> End {
 
 /// A worker's part of a hall. It refers to the board and the claims, not to their hall: threads hold it, and each type that is in between makes
 /// `Send` of what they hold longer to show.
+#[derive(Drop)]
 pub struct WorkerSide<'a> {
     board: &'a Board,
     claims: &'a Claims,
@@ -208,17 +192,6 @@ pub struct WorkerSide<'a> {
     ghost pass_own: { IsPassOf board.now pass },
     ghost seat_own: { seat.claims ≡ claims.now.id },
     ghost loops: { length board.now.replies ≡ claims.now.loops },
-}
-
-impl Drop for WorkerSide<'_> {
-    fn drop(self) {
-        let WorkerSide {
-            board: _,
-            claims: _,
-            pass: _,
-            seat: _,
-        } = self;
-    }
 }
 
 impl<'a> WorkerSide<'a> {
@@ -250,6 +223,7 @@ impl<'a> WorkerSide<'a> {
 }
 
 /// The loop's part of a hall. The loop opens its requests in the slots in turn, and pops the job that it posts. It keeps one that was refused.
+#[derive(Drop)]
 pub struct LoopSide<'a> {
     hand: BoardHand<'a>,
     claims: &'a Claims,
@@ -259,19 +233,6 @@ pub struct LoopSide<'a> {
     kept: Option<JobBox>,
     ghost seat_own: { (seat.claims ≡ claims.now.id) × (seat.loop_no ≡ 0) },
     ghost rising: { (0 < next) × All (λ c. c.1 < next) seat.opened },
-}
-
-impl Drop for LoopSide<'_> {
-    fn drop(self) {
-        let LoopSide {
-            hand: _,
-            claims: _,
-            seat: _,
-            jobs: _,
-            next: _,
-            kept: _,
-        } = self;
-    }
 }
 
 /// The largest request that a loop may open here.

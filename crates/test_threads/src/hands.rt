@@ -8,17 +8,12 @@ use claims::Ticket;
 use order::Reply;
 use std::sync::Wait;
 
+#[derive(Drop)]
 pub struct BoardHand<'a> {
     pub board: &'a Board,
     pub pass: Pass,
     ghost own: { IsPassOf board.now pass },
     ghost loops: { 0 < length board.now.replies },
-}
-
-impl Drop for BoardHand<'_> {
-    fn drop(self) {
-        let BoardHand { board: _, pass: _ } = self;
-    }
 }
 
 impl BoardHand<'_> {

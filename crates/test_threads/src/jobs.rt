@@ -19,22 +19,12 @@ use std::test::Fail;
 use test_fixtures::linked_of;
 
 /// What jobs are made of, and how often they were called.
+#[derive(Drop)]
 pub struct Jobs {
     pub alloc: Global,
     linked: Arc<Linked>,
     bytes: Arc<Vec<u8>>,
     pub calls: Arc<AtomicU64>,
-}
-
-impl Drop for Jobs {
-    fn drop(self) {
-        let Jobs {
-            alloc: _,
-            linked: _,
-            bytes: _,
-            calls: _,
-        } = self;
-    }
 }
 
 // Their module has a work function, and their bytes are none. A test needs to know nothing of them.

@@ -133,20 +133,11 @@ fn all_send_seats_send_and_join(rt: HostRuntime) -> Result<(), Fail> {
 }
 
 /// What a loop took while others sent: the sum, and how many takes found something.
+#[derive(Drop)]
 struct Taken {
     taker: TakeSeat,
     sum: u64,
     callbacks: u64,
-}
-
-impl Drop for Taken {
-    fn drop(self) {
-        let Taken {
-            taker: _,
-            sum: _,
-            callbacks: _,
-        } = self;
-    }
 }
 
 /// Takes so often from async 0.

@@ -10,7 +10,8 @@ use Rattle.phases.specs.declared.slices.StepSlice.TheVariants as slice
 use Rattle.wasmloop_c.specs.Calls.{core_in}
 use Rattle.wasmloop_c.specs.Numbers.{did_of}
 use Rattle.wasmloop_c.specs.StepSlices.{LeftByStep, RunsStep, step_held}
-use Rattle.wasmloop_c.specs.TurnSlices.{LoopIsAt, SliceEnds, SliceGoesOn, StepIsUnderway, TakesSlices, TurnsStage, WaitsFor, fuel_in, last_did, IsRefusal}
+use Rattle.wasmloop_c.specs.TurnSlices.{LoopIsAt, SliceEnds, SliceGoesOn, StepIsUnderway, TakesSlices, TurnsStage, WaitsFor, counted_for, fuel_in, last_did, IsRefusal}
+use Rattle.wasmloop_c.specs.Turning.{counted_after}
 use Rattle.wasmloop_c.specs.declared.step_slices.SliceEnd.TheVariants as end
 use Rattle.wasmloop_c.specs.declared.thing.LoopStage.TheVariants as stage
 use Rattle.wasmloop_c.specs.declared.turn_slices.TurnLeft.{TurnLeft}
@@ -317,26 +318,28 @@ refusal_is (stage.Resting held) status is ok = absurd cc
 refusal_is (stage.Stepping held) status is ok = absurd is
 refusal_is stage.Gone status is ok = absurd cc
 
-pub turns : (from : LoopStage) (most units was : ℕ) (old told : Turned) (it : TurnLeft) → it.status ≡ OK → TakesSlices from most units old.did told.did it
-    → told.callbacks ≡ counted_on old it.ran → WaitsFor it told.did told.callbacks told.wait → told.zero ≡ old.zero
-    → TurnsStage from it.stage most units was it.over old told it.status
-turns from most units was old told it ok (inl h) callbacks waits zero = inl (
+pub turns : (from : LoopStage) (before after most units was : ℕ) (old told : Turned) (it : TurnLeft) → it.status ≡ OK
+    → TakesSlices from most units old.did told.did it → told.callbacks ≡ counted_on before it.ran → after ≡ counted_for it.over told
+    → WaitsFor it told.did told.callbacks told.wait → told.zero ≡ 0 → TurnsStage from before it.stage after most units was it.over old told it.status
+turns from before after most units was old told it ok (inl h) callbacks kept waits zero = inl (
   ok,
   h.1,
   λ c at.
       let ends = h.2 c at in
-      record { ran = it.ran; slice = ends; callbacks = callbacks; wait = waits.0 ends.d h.1 ends.stands; zero = zero },
+      let counted : after ≡ counted_after told = subst (λ (n : ℕ). after ≡ counted_for n told) h.1 kept in
+      record { ran = it.ran; slice = ends; callbacks = callbacks; kept = counted; wait = waits.0 ends.d h.1 ends.stands; zero = zero },
 )
-turns from most units was old told it ok (inr (inl h)) callbacks waits zero = inr (inl (
+turns from before after most units was old told it ok (inr (inl h)) callbacks kept waits zero = inr (inl (
   ok,
   h.1,
   λ c at.
-      record { ran = it.ran; slice = h.2 c at; callbacks = callbacks; wait = waits.1 h.1; zero = zero },
+      let counted : after ≡ told.callbacks = subst (λ (n : ℕ). after ≡ counted_for n told) h.1 kept in
+      record { ran = it.ran; slice = h.2 c at; callbacks = callbacks; kept = counted; wait = waits.1 h.1; zero = zero },
 ))
-turns from most units was old told it ok (inr (inr h)) callbacks waits zero = absurd (refusal_is from it.status h.0 ok)
+turns from before after most units was old told it ok (inr (inr h)) callbacks kept waits zero = absurd (refusal_is from it.status h.0 ok)
 
-pub no_turn : (from : LoopStage) (most units was : ℕ) (old told : Turned) (it : TurnLeft) → (it.status ≡ OK → ⊥) → TakesSlices from most units old.did told.did it
-    → (told.did ≡ old.did → told ≡ old) → TurnsStage from it.stage most units was was old told it.status
-no_turn from most units was old told it not (inl h) same = absurd (not h.0)
-no_turn from most units was old told it not (inr (inl h)) same = absurd (not h.0)
-no_turn from most units was old told it not (inr (inr h)) same = inr (inr (h.0, h.1, refl, same h.2))
+pub no_turn : (from : LoopStage) (before most units was : ℕ) (old told : Turned) (it : TurnLeft) → (it.status ≡ OK → ⊥)
+    → TakesSlices from most units old.did told.did it → (told.did ≡ old.did → told ≡ old) → TurnsStage from before it.stage before most units was was old told it.status
+no_turn from before most units was old told it not (inl h) same = absurd (not h.0)
+no_turn from before most units was old told it not (inr (inl h)) same = absurd (not h.0)
+no_turn from before most units was old told it not (inr (inr h)) same = inr (inr (h.0, h.1, refl, refl, same h.2))

@@ -52,7 +52,7 @@ core_in _ = None
 
 -- the loop that a handle has, between two steps
 abbrev pub loop_of : Thing → Option (Core Desk)
-loop_of (thing.Loop it) = core_in it.value
+loop_of (thing.Loop it callbacks) = core_in it.value
 loop_of _ = None
 
 -- how far the job is that a thing is
@@ -76,13 +76,23 @@ OnHandle old new status Same Does = MatchOption old ((status ≡ EMPTY) × (new 
 
 -- the loop that a thing is, in a step or not
 abbrev pub loop_stage_of : Thing → Option LoopStage
-loop_stage_of (thing.Loop it) = Some it.value
+loop_stage_of (thing.Loop it callbacks) = Some it.value
 loop_stage_of _ = None
 
+-- how many callbacks its turns have run in the iteration under way
+abbrev pub turned_callbacks : Thing → ℕ
+turned_callbacks (thing.Loop it callbacks) = callbacks
+turned_callbacks _ = 0
+
 -- a call on what a handle has: where that is no loop it stays, and the status says so, and `Same` holds
+abbrev pub OnCounted : (old new : Thing) → (status : ℕ) → (Same : Type 0) → (Does : LoopStage → ℕ → LoopStage → ℕ → Type 0) → Type 0
+OnCounted old new status Same Does =
+    MatchOption (loop_stage_of old) ((status ≡ KIND) × (new ≡ old) × Same)
+    (λ a. IsSomeAnd (loop_stage_of new) (λ b. Does a (turned_callbacks old) b (turned_callbacks new)))
+
+-- one that is no turn leaves what the turns have counted
 abbrev pub OnLoopStage : (old new : Thing) → (status : ℕ) → (Same : Type 0) → (Does : LoopStage → LoopStage → Type 0) → Type 0
-OnLoopStage old new status Same Does =
-    MatchOption (loop_stage_of old) ((status ≡ KIND) × (new ≡ old) × Same) (λ a. IsSomeAnd (loop_stage_of new) (λ b. Does a b))
+OnLoopStage old new status Same Does = OnCounted old new status Same (λ a before b after. (after ≡ before) × Does a b)
 
 -- the same of a loop that is in no step
 abbrev pub OnResting : (old new : LoopStage) → (status : ℕ) → (Same : Type 0) → (Does : Core Desk → Core Desk → Type 0) → Type 0

@@ -23,7 +23,7 @@ store_in stage.Gone = None
 
 -- of a loop between two steps, or after the one that failed, the store that its last callback left
 abbrev pub store_of : Thing → Option (Loaded × Store)
-store_of (thing.Loop it) = option_map (λ c. (c.setting.loaded, c.loop.store)) (core_in it.value)
+store_of (thing.Loop it callbacks) = option_map (λ c. (c.setting.loaded, c.loop.store)) (core_in it.value)
 store_of (thing.Instance instance) = store_in instance.value
 store_of _ = None
 

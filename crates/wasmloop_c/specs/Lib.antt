@@ -8,6 +8,7 @@ pub mod Inspecting
 pub mod Exports
 pub mod FirstSlices
 pub mod Instances
+pub mod Kinds
 pub mod Signatures
 pub mod Slices
 pub mod Sentences

@@ -27,6 +27,20 @@ abbrev pub TellsPlaceOf : FoundStop → (bytes old new : List ℕ) → (before c
 TellsPlaceOf None bytes old new before count status = (status ≡ KIND) × Untold old new before count
 TellsPlaceOf (Some found) bytes old new before count status = TellsPlaceIn (is_some found.0) found.1 bytes old new before count status
 
+-- the same by the bytes that the module keeps
+abbrev pub TellsOwnPlaceIn : (has_stopped : Bool) → (old new : List ℕ) → (before count status : ℕ) → Type 0
+TellsOwnPlaceIn has_stopped old new before count status =
+    ((has_stopped ≡ false) × (status ≡ NONE) × Untold old new before count)
+    ⊎ ((has_stopped ≡ true) × (status ≡ OK) × CopiesWords old new count)
+    ⊎ ((has_stopped ≡ true) × (status ≡ MEMORY) × Untold old new before count)
+
+abbrev pub TellsOwnPlaceOf : FoundStop → (old new : List ℕ) → (before count status : ℕ) → Type 0
+TellsOwnPlaceOf None old new before count status = (status ≡ KIND) × Untold old new before count
+TellsOwnPlaceOf (Some found) old new before count status = TellsOwnPlaceIn (is_some found.0) old new before count status
+
+abbrev pub TellsOwnPlace : Thing → (old new : List ℕ) → (before count status : ℕ) → Type 0
+TellsOwnPlace t old new before count status = (found : FoundStop) × StopsAs t found × TellsOwnPlaceOf found old new before count status
+
 abbrev pub TellsPlace : Thing → (bytes old new : List ℕ) → (before count status : ℕ) → Type 0
 TellsPlace t bytes old new before count status = (found : FoundStop) × StopsAs t found × TellsPlaceOf found bytes old new before count status
 

@@ -1,5 +1,5 @@
 -- What is reported of where a loop's last callback stopped, or a job, or an instance's last call.
-use Rattle.std.specs.Prelude.{◌≡◌, ◌⊎◌, ◌≤◌, ◌<◌, ℕ, List, length, slice_get, Option, Some, None}
+use Rattle.std.specs.Prelude.{◌≡◌, ◌⊎◌, ◌+◌, ◌<◌, ℕ, List, length, slice_get, slice_range, Option, Some, None}
 use Rattle.std.specs.Arc.{arc_value}
 use Rattle.std.specs.Option.{option_map}
 use Rattle.instance.specs.declared.stack.Site.{Site as Operation}
@@ -10,7 +10,10 @@ use Rattle.order.specs.Slices.{OrderStandsAt}
 use Rattle.resident.specs.Slices.{CallStandsAt}
 use Rattle.phases.specs.State.{Setting}
 use Rattle.phases.specs.Stopping.{LoopStopsAt}
+use Rattle.places.specs.Places.{IsNumberOf}
 use Rattle.places.specs.Spans.{CodeAt}
+use Rattle.places.specs.Spots.{IsSpot, IsUnspelled}
+use Rattle.places.specs.declared.operations.Spot.{Spot}
 use Rattle.desk.specs.Desk.{desk_calls}
 use Rattle.wasmloop_c.specs.declared.status.TheConstants.{OK, NONE, KIND}
 use Rattle.wasmloop_c.specs.declared.stops.StopPlace.{StopPlace}
@@ -65,27 +68,27 @@ LoopStopsAs _ found = found ≡ None
 
 -- where a loop's last callback or an instance's last call stopped, all of it, or where a job did
 abbrev pub StopsAs : Thing → FoundStop → Type 0
-StopsAs (thing.Loop it) found = LoopStopsAs it.value found
+StopsAs (thing.Loop it callbacks) found = LoopStopsAs it.value found
 StopsAs (thing.Job job) found = JobStopsAs job.value found
 StopsAs (thing.Instance instance) found = CallStopsAs instance.value found
 StopsAs other found = found ≡ None
 
--- An operation of the decoded body is the instruction of this number that the body spells, and begins at this byte, which lies in the body.
--- (A body in which each `if` has an `else` spells each operation; else the `end` of an `if` without `else` stands for two.) Where the bytes
--- have no such instruction, the number is the operation's, and the byte 0.
+-- An operation of the decoded body is the instruction of this number that the body spells, which begins at this byte. (A body in which each
+-- `if` has an `else` spells each operation; else the `end` of an `if` without `else` is two.) Where no instruction of the bytes is that
+-- operation, the number is the operation's, and the byte 0.
 abbrev pub IsSpelled : List ℕ → Operation → (number byte : ℕ) → Type 0
 IsSpelled bytes s number byte =
-    ((begin : ℕ) × (from : ℕ) × (to : ℕ) × CodeAt bytes s.function begin from to × (from ≤ byte) × (byte < to)
-    × (number ≤ s.operation))
-    ⊎ ((number ≡ s.operation) × (byte ≡ 0))
+    ((begin : ℕ) × (from : ℕ) × (to : ℕ) × CodeAt bytes s.function begin from to
+    × (spot : Spot) × IsSpot (slice_range bytes from to) s.operation spot × (number ≡ spot.number) × (byte ≡ from + spot.at))
+    ⊎ (IsUnspelled bytes s.function s.operation × (number ≡ s.operation) × (byte ≡ 0))
 
 -- an operation, as C reads it
 abbrev pub IsSiteOf : List ℕ → Operation → Site → Type 0
 IsSiteOf bytes s told = (told.function ≡ s.function) × ((byte : ℕ) × IsSpelled bytes s told.operation byte)
 
--- the same with its byte; which number its function has with the imports, no clause says
+-- the same with its byte, and its function's number with the imports
 abbrev pub IsByteOf : List ℕ → Operation → SpelledSite → Type 0
-IsByteOf bytes s told = IsSpelled bytes s told.instruction told.byte
+IsByteOf bytes s told = IsNumberOf bytes s.function told.function × IsSpelled bytes s told.instruction told.byte
 
 -- the sites are copied as far as there is room, each as `Is` says, and what is behind them stays
 pub record CopiesSites {X : Type 0} (Is : Operation → X → Type 0) (sites : List Operation) (old new : List X) : Type 0 where

@@ -1,10 +1,10 @@
 -- What a slice does to a turn of the loop that its handle has.
-use Rattle.std.specs.Prelude.{◌≡◌, ◌⊎◌, ◌≤◌, ◌<◌, ◌+◌, ◌-◌, ◌^◌, ◌==◌, min, ℕ, true, false, List, [], ◌∷◌, Option, Some}
+use Rattle.std.specs.Prelude.{◌≡◌, ◌⊎◌, ◌≤◌, ◌<◌, ◌+◌, ◌-◌, ◌^◌, ◌==◌, min, ℕ, true, false, List, [], ◌∷◌, Option, Some, if◌then◌else◌}
 use Rattle.desk.specs.Desk.{Desk, desk_calls}
 use Rattle.phases.specs.State.{Core}
 use Rattle.phases.specs.Underway.{StepHasCome, used_by_step}
-use Rattle.wasmloop_c.specs.Calls.{OnHandle, OnLoopStage, StepsNumbered, core_in, one_if}
-use Rattle.wasmloop_c.specs.Turning.{begun_callbacks, ends_turn, ran_in, wait_after, NoneEnds, TakesSteps, TurnSteps}
+use Rattle.wasmloop_c.specs.Calls.{OnCounted, OnHandle, StepsNumbered, core_in, one_if}
+use Rattle.wasmloop_c.specs.Turning.{counted_after, ends_turn, ran_in, wait_after, NoneEnds, TakesSteps, TurnSteps}
 use Rattle.wasmloop_c.specs.declared.did.Did.{Did}
 use Rattle.wasmloop_c.specs.declared.did.TheConstants.{RAN}
 use Rattle.wasmloop_c.specs.declared.status.TheConstants.{OK, KIND, MEMORY}
@@ -103,34 +103,42 @@ WaitsFor it did callbacks wait =
     ((d : Core Desk) → it.over ≡ 1 → core_in it.stage ≡ Some d → wait ≡ wait_after d did callbacks)
     × (it.over ≡ 0 → wait ≡ 0)
 
--- A slice of a turn adds the callbacks that ended in it to those of the iteration so far. While the turn isn't over, there is nothing to wait for.
-abbrev pub counted_on : (old : Turned) → (ran : ℕ) → ℕ
-counted_on old ran = min (begun_callbacks old + ran) (2 ^ 32 - 1)
+-- A slice of a turn adds the callbacks that ended in it to those that the loop's turns have run in the iteration so far. While the turn isn't over,
+-- there is nothing to wait for.
+abbrev pub counted_on : (before ran : ℕ) → ℕ
+counted_on before ran = min (before + ran) (2 ^ 32 - 1)
 
-pub record TurnEnds (c : Core Desk) (from units most : ℕ) (old new : Turned) (left : LoopStage) : Type 0 where
-  pub ran : ℕ
-  pub slice : SliceEnds c from units most new.did ran left
-  pub callbacks : new.callbacks ≡ counted_on old ran
-  pub wait : new.wait ≡ wait_after slice.d new.did new.callbacks
-  pub zero : new.zero ≡ old.zero
+-- what the turns of a loop count on from after a slice of a turn
+abbrev pub counted_for : (over : ℕ) → Turned → ℕ
+counted_for over told = if over == 1 then counted_after told else told.callbacks
 
-pub record TurnGoesOn (c : Core Desk) (from units most : ℕ) (old new : Turned) (left : LoopStage) : Type 0 where
+pub record TurnEnds (c : Core Desk) (from units most before after : ℕ) (told : Turned) (left : LoopStage) : Type 0 where
   pub ran : ℕ
-  pub slice : SliceGoesOn c from units most old.did new.did ran left
-  pub callbacks : new.callbacks ≡ counted_on old ran
-  pub wait : new.wait ≡ 0
-  pub zero : new.zero ≡ old.zero
+  pub slice : SliceEnds c from units most told.did ran left
+  pub callbacks : told.callbacks ≡ counted_on before ran
+  pub kept : after ≡ counted_after told
+  pub wait : told.wait ≡ wait_after slice.d told.did told.callbacks
+  pub zero : told.zero ≡ 0
+
+-- (where no step is over, the last one is not told anew)
+pub record TurnGoesOn (c : Core Desk) (from units most before after : ℕ) (was told : Turned) (left : LoopStage) : Type 0 where
+  pub ran : ℕ
+  pub slice : SliceGoesOn c from units most was.did told.did ran left
+  pub callbacks : told.callbacks ≡ counted_on before ran
+  pub kept : after ≡ told.callbacks
+  pub wait : told.wait ≡ 0
+  pub zero : told.zero ≡ 0
 
 -- a slice of a turn: it ends the turn, or it doesn't, or nothing is done
-abbrev pub TurnsStage : (old new : LoopStage) → (most units was over : ℕ) → (before told : Turned) → (status : ℕ) → Type 0
-TurnsStage from new most units was over before told status =
-    ((status ≡ OK) × (over ≡ 1) × ((c : Core Desk) → LoopIsAt c from → TurnEnds c (used_in from) units most before told new))
-    ⊎ ((status ≡ OK) × (over ≡ 0) × ((c : Core Desk) → LoopIsAt c from → TurnGoesOn c (used_in from) units most before told new))
-    ⊎ (IsRefusal from status × (new ≡ from) × (over ≡ was) × (told ≡ before))
+abbrev pub TurnsStage : (from : LoopStage) → (before : ℕ) → (left : LoopStage) → (after most units was_over over : ℕ) → (was told : Turned) → (status : ℕ) → Type 0
+TurnsStage from before left after most units was_over over was told status =
+    ((status ≡ OK) × (over ≡ 1) × ((c : Core Desk) → LoopIsAt c from → TurnEnds c (used_in from) units most before after told left))
+    ⊎ ((status ≡ OK) × (over ≡ 0) × ((c : Core Desk) → LoopIsAt c from → TurnGoesOn c (used_in from) units most before after was told left))
+    ⊎ (IsRefusal from status × (left ≡ from) × (after ≡ before) × (over ≡ was_over) × (told ≡ was))
 
 abbrev pub TurnsFor : (old new : Thing) → (most units was over : ℕ) → (before told : Turned) → (status : ℕ) → Type 0
 TurnsFor old new most units was over before told status =
-    OnLoopStage old new status ((over ≡ was) × (told ≡ before)) (λ a b. TurnsStage a b most units was over before told status)
+    OnCounted old new status ((over ≡ was) × (told ≡ before)) (λ a m b n. TurnsStage a m b n most units was over before told status)
 
 abbrev pub TurnsHeld : (old new : Option Thing) → (most units was over : ℕ) → (before told : Turned) → (status : ℕ) → Type 0
 TurnsHeld old new most units was over before told status =

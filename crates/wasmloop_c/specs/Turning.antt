@@ -1,18 +1,20 @@
 -- What a turn does: the steps of a loop up to where its owner has something to do.
-use Rattle.std.specs.Prelude.{◌≡◌, ◌⊎◌, ◌≤◌, ◌+◌, ◌-◌, ◌^◌, ◌==◌, ◌&&◌, ◌||◌, ℕ, Bool, true, false, not, min, nat_le, List, [], ◌∷◌, length, if◌then◌else◌}
+use Rattle.std.specs.Prelude.{◌≡◌, ◌⊎◌, ◌≤◌, ◌+◌, ◌-◌, ◌^◌, ◌==◌, ◌&&◌, ◌||◌, ℕ, Bool, true, false, not, min, nat_le, List, [], ◌∷◌, length, Option, if◌then◌else◌}
 use Rattle.desk.specs.Desk.{Desk}
 use Rattle.phases.specs.State.{Core}
 use Rattle.phases.specs.Outside.{is_failed}
 use Rattle.phases.specs.PhaseList.{hint_of}
-use Rattle.wasmloop_c.specs.Calls.{StepsNumbered, one_if}
+use Rattle.wasmloop_c.specs.Calls.{OnCounted, OnHandle, OnResting, StepsNumbered, one_if}
 use Rattle.wasmloop_c.specs.Numbers.{hint_number}
 use Rattle.wasmloop_c.specs.declared.did.Did.{Did}
 use Rattle.wasmloop_c.specs.declared.did.TheConstants.{ENTERED, RAN, SKIPPED, TIMERS, RETURN}
+use Rattle.wasmloop_c.specs.declared.status.TheConstants.{OK}
+use Rattle.wasmloop_c.specs.declared.thing.Thing.{Thing}
 use Rattle.wasmloop_c.specs.declared.turn.Turned.{Turned}
 
--- a call before that entered the timers phase has ended an iteration
-abbrev pub begun_callbacks : Turned → ℕ
-begun_callbacks t = if (t.did.what == ENTERED) && (t.did.phase == TIMERS) then 0 else t.callbacks
+-- The turns of a loop count on from here after one that told this. Where it entered the timers phase, an iteration is over.
+abbrev pub counted_after : Turned → ℕ
+counted_after told = if (told.did.what == ENTERED) && (told.did.phase == TIMERS) then 0 else told.callbacks
 
 -- a step ends a turn of at most so many callbacks, of which so many ran before it
 abbrev pub ends_turn : (most ran : ℕ) → Did → Bool
@@ -52,10 +54,21 @@ wait_after d did callbacks =
     then 18446744073709551615
     else (if not (did.what == ENTERED) || not (callbacks == 0) then 0 else hint_number (hint_of d.loop.state))
 
--- A turn adds the callbacks that ran in its steps to those of the iteration so far, up to 2^32 - 1.
-pub record Turns (c d : Core Desk) (most : ℕ) (old new : Turned) : Type 0 where
+-- A turn adds the callbacks that ran in its steps to those that the loop's turns have run in the iteration so far, up to 2^32 - 1. It tells all of
+-- this anew: nothing depends on what was there.
+pub record Turns (c d : Core Desk) (most before after : ℕ) (told : Turned) : Type 0 where
   pub ran : ℕ
-  pub steps : TurnSteps c d most new.did ran
-  pub callbacks : new.callbacks ≡ min (begun_callbacks old + ran) (2 ^ 32 - 1)
-  pub wait : new.wait ≡ wait_after d new.did new.callbacks
-  pub zero : new.zero ≡ old.zero
+  pub steps : TurnSteps c d most told.did ran
+  pub callbacks : told.callbacks ≡ min (before + ran) (2 ^ 32 - 1)
+  pub kept : after ≡ counted_after told
+  pub wait : told.wait ≡ wait_after d told.did told.callbacks
+  pub zero : told.zero ≡ 0
+
+-- a turn of the loop that a thing is, and of the one that a handle has
+abbrev pub TurnsLoop : (old new : Thing) → (most : ℕ) → (was told : Turned) → (status : ℕ) → Type 0
+TurnsLoop old new most was told status =
+    OnCounted old new status (told ≡ was)
+    (λ a before b after. OnResting a b status ((after ≡ before) × (told ≡ was)) (λ c d. (status ≡ OK) × Turns c d most before after told))
+
+abbrev pub TurnsHeldLoop : (old new : Option Thing) → (most : ℕ) → (was told : Turned) → (status : ℕ) → Type 0
+TurnsHeldLoop old new most was told status = OnHandle old new status (told ≡ was) (λ t u. TurnsLoop t u most was told status)

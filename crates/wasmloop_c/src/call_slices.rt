@@ -1,7 +1,12 @@
 // Calls of an instance in slices.
 
-ghost use Rattle.std.specs.Prelude.{◌≡◌, ◌≤◌, ◌<◌, ◌⊎◌};
+ghost use Rattle.std.specs.Prelude.{◌≡◌, ◌≤◌, ◌<◌, ◌⊎◌, ℕ, length};
 ghost use Rattle.limits.specs.declared.TheConstants.{MAX_DEPTH};
+ghost use Rattle.syntax.specs.declared.contents.Contents.{Contents};
+ghost use Rattle.interp.specs.Lent.{result_count};
+ghost use Rattle.resident.specs.Bare.{whole_going};
+ghost use Rattle.resident.specs.Slices.{CallGoesOn};
+ghost use Rattle.resident.specs.declared.calling.Going.{Going as Slice};
 ghost use Rattle.wasmloop_c.specs.CallSlices.{BeginsCall, BeginsHeldCall, BeginsStage, EndsCallOf, EndsHeldCall, EndsStage, LeftByCall, RunsCall, RunsHeldCall, RunsStage};
 ghost use Rattle.wasmloop_c.specs.declared.thing.InstanceStage.TheVariants as stage;
 
@@ -11,9 +16,10 @@ use crate::handle::{Handle, on};
 use crate::instances::{CallLimits, named};
 use crate::status::{KIND, OK, RANGE};
 use crate::thing::{InstanceStage, Thing};
-use resident::{Going, Resident};
+use resident::{BareGoing, Calling, Going, Resident};
 use std::alloc::Global;
 use std::mem::replace;
+use syntax::types::Value;
 
 fn begin_on(
     alloc: Global,
@@ -83,6 +89,15 @@ pub extern "C" fn wasmloop_rt_call_begin(
     on!(handle, alloc, held => begin(alloc, &mut held, name, numbers, limits))
 }
 
+/// A call that goes on, which is told as not over.
+fn paused_in(call: Calling, over: &mut u32) -> InstanceStage
+    ensures left { result ≡ stage.Calling call }
+    ensures over { over.new ≡ 0 }
+{
+    *over = 0;
+    InstanceStage::Calling(call)
+}
+
 /// What a slice leaves of a call.
 pub fn left_by(going: Going, over: &mut u32, told: &mut CallEnded) -> InstanceStage
     ensures { LeftByCall going result over.new told.old told.new }
@@ -93,11 +108,44 @@ pub fn left_by(going: Going, over: &mut u32, told: &mut CallEnded) -> InstanceSt
             told.write(&ended);
             InstanceStage::Resident(resident)
         }
-        Going::Paused(call) => {
-            *over = 0;
-            InstanceStage::Calling(call)
-        }
+        Going::Paused(call) => paused_in(call, over),
     }
+}
+
+/// What a slice leaves of a call whose results are in these places, where it returned.
+#[inline(always)]
+pub fn left_in(
+    going: BareGoing,
+    results: &[Value],
+    over: &mut u32,
+    told: &mut CallEnded,
+) -> InstanceStage
+    ensures { (m : Contents) (function : ℕ) → result_count m function ≡ length results.now
+        → LeftByCall (whole_going m function going results.now) result over.new told.old told.new }
+{
+    match going {
+        BareGoing::Over(resident, ended) => {
+            *over = 1;
+            told.write_with(ended, results);
+            InstanceStage::Resident(resident)
+        }
+        BareGoing::Paused(call) => paused_in(call, over),
+    }
+}
+
+/// A slice of a call. Where its function has at most one result, as most have, no room for more is filled.
+fn run_call(call: Calling, units: u64, over: &mut u32, told: &mut CallEnded) -> InstanceStage
+    requires { 1 ≤ units }
+    ensures { (going : Slice) × CallGoesOn call units going × LeftByCall going result over.new told.old told.new }
+{
+    let count = call.results();
+    if count > 1 {
+        return left_by(call.go_on(units), over, told);
+    }
+    let mut one = [Value::I32(0)];
+    let results = &mut one[..count];
+    let going = call.go_on_into(units, results);
+    left_in(going, results, over, told)
 }
 
 fn run_stage(
@@ -110,7 +158,7 @@ fn run_stage(
     ensures { RunsStage stage result.0 units over.old over.new told.old told.new result.1 }
 {
     match stage {
-        InstanceStage::Calling(call) => (left_by(call.go_on(units), over, told), OK),
+        InstanceStage::Calling(call) => (run_call(call, units, over, told), OK),
         other => (other, KIND),
     }
 }

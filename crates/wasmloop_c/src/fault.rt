@@ -120,15 +120,35 @@ impl Fault {
         }
     }
 
+    fn with_place(self, place: Option<Place>) -> Fault
+        ensures { (result.stage ≡ self.stage) × (result.code ≡ self.code) }
+    {
+        match place {
+            Some(place) => self.at_place(place),
+            None => self,
+        }
+    }
+
     /// Why these bytes are refused, and where, as far as that is known.
     pub fn new(alloc: Global, refusal: Refusal, bytes: &[u8]) -> Result<Fault, AllocError>
         ensures { IfOk result (λ fault. (fault.stage ≡ stage_number refusal) × (fault.code ≡ code_number refusal)) }
     {
-        let fault = Fault::nowhere(refusal);
         let place = try_explain(refusal, alloc, bytes)?.place;
-        match place {
-            Some(place) => Ok(fault.at_place(place)),
-            None => Ok(fault),
-        }
+        Ok(Fault::nowhere(refusal).with_place(place))
+    }
+
+    /// The same, with the sentence that `check` prints.
+    pub fn told(
+        alloc: Global,
+        refusal: Refusal,
+        bytes: &[u8],
+    ) -> Result<(Fault, String), AllocError>
+        ensures { IfOk result (λ told. (told.0.stage ≡ stage_number refusal) × (told.0.code ≡ code_number refusal)) }
+    {
+        let account = try_explain(refusal, alloc, bytes)?;
+        let Ok(text) = format!(in alloc; "{account}") else {
+            return Err(AllocError);
+        };
+        Ok((Fault::nowhere(refusal).with_place(account.place), text))
     }
 }

@@ -8,17 +8,25 @@ ghost use Rattle.reduction.specs.Invoking.{TakesArguments};
 ghost use Rattle.wasmloop_c.specs.FirstSlices.{CallsFor, CallsForHeld, CallsForStage, SlicesFirst};
 ghost use Rattle.wasmloop_c.specs.declared.thing.InstanceStage.TheVariants as stage;
 
-use crate::call_slices::left_by;
+use crate::call_slices::{left_by, left_in};
 use crate::checked::CheckedLimits;
 use crate::ended::{CallEnded, lay};
 use crate::handle::{Handle, on};
 use crate::instances::{CallLimits, FEW, arguments};
 use crate::status::{ARGUMENTS, KIND, NONE, OK, RANGE};
 use crate::thing::{InstanceStage, Thing};
-use resident::{BareGoing, Resident};
+use resident::Resident;
 use std::alloc::Global;
 use std::mem::replace;
 use syntax::types::Value;
+
+/// What a call may use, and its first slice of it.
+#[derive(Clone, Copy)]
+pub struct FirstSlice {
+    pub limits: CheckedLimits,
+    pub units: u64,
+    pub ghost some: { 1 ≤ units },
+}
 
 /// The first slice of a call of this function: what it leaves is told.
 #[inline(always)]
@@ -27,37 +35,27 @@ fn begin_for(
     function: u32,
     count: usize,
     args: &[Value],
-    limits: CheckedLimits,
-    units: u64,
+    slice: FirstSlice,
     over: &mut u32,
     told: &mut CallEnded,
 ) -> InstanceStage
     requires typed { TakesArguments resident.loaded.contents function args.now }
     requires counted { (type : FuncType) × HasFunctionType resident.loaded.contents function type × (length type.results ≡ count) }
     requires few { count ≤ 1 }
-    requires units { 1 ≤ units }
-    ensures { SlicesFirst resident limits function args.now units result over.new told.old told.new }
+    ensures { SlicesFirst resident slice.limits function args.now slice.units result over.new told.old told.new }
 {
+    let limits = slice.limits;
     let mut one = [Value::I32(0)];
     let results = &mut one[..count];
-    match resident.call_for(
+    let going = resident.call_for(
         function,
         args,
         limits.fuel(),
         limits.depth(),
-        units,
+        slice.units,
         results,
-    ) {
-        BareGoing::Over(resident, ended) => {
-            *over = 1;
-            told.write_with(ended, results);
-            InstanceStage::Resident(resident)
-        }
-        BareGoing::Paused(call) => {
-            *over = 0;
-            InstanceStage::Calling(call)
-        }
-    }
+    );
+    left_in(going, results, over, told)
 }
 
 /// Begins a call of the function that the export of this number is, and goes on with it. Where it has few arguments and at most one result, as
@@ -68,13 +66,11 @@ fn call_for_on(
     resident: Resident,
     number: u64,
     numbers: &[u64],
-    limits: CheckedLimits,
-    units: u64,
+    slice: FirstSlice,
     over: &mut u32,
     told: &mut CallEnded,
 ) -> (InstanceStage, u32)
-    requires { 1 ≤ units }
-    ensures { CallsForStage (stage.Resident resident) result.0 number numbers.now limits units over.old over.new told.old told.new result.1 }
+    ensures { CallsForStage (stage.Resident resident) result.0 number numbers.now slice.limits slice.units over.old over.new told.old told.new result.1 }
 {
     let Some((function, func_type)) = resident.function_at(number as usize) else {
         return (InstanceStage::Resident(resident), NONE);
@@ -86,15 +82,16 @@ fn call_for_on(
             Ok(args) => args,
             Err(status) => return (InstanceStage::Resident(resident), status),
         };
+        let limits = slice.limits;
         let call = resident.begin(function, args.as_slice(), limits.fuel(), limits.depth());
-        return (left_by(call.go_on(units), over, told), OK);
+        return (left_by(call.go_on(slice.units), over, told), OK);
     }
     let mut room = [Value::I32(0); FEW];
     let args = &mut room[..types.len()];
     if !lay(types, numbers, args) {
         return (InstanceStage::Resident(resident), ARGUMENTS);
     }
-    let left = begin_for(resident, function, count, args, limits, units, over, told);
+    let left = begin_for(resident, function, count, args, slice, over, told);
     (left, OK)
 }
 
@@ -103,17 +100,15 @@ fn call_for_stage(
     stage: InstanceStage,
     number: u64,
     numbers: &[u64],
-    limits: CheckedLimits,
-    units: u64,
+    slice: FirstSlice,
     over: &mut u32,
     told: &mut CallEnded,
 ) -> (InstanceStage, u32)
-    requires { 1 ≤ units }
-    ensures { CallsForStage stage result.0 number numbers.now limits units over.old over.new told.old told.new result.1 }
+    ensures { CallsForStage stage result.0 number numbers.now slice.limits slice.units over.old over.new told.old told.new result.1 }
 {
     match stage {
         InstanceStage::Resident(resident) => {
-            call_for_on(alloc, resident, number, numbers, limits, units, over, told)
+            call_for_on(alloc, resident, number, numbers, slice, over, told)
         }
         other => (other, KIND),
     }
@@ -124,19 +119,17 @@ fn call_for(
     thing: &mut Thing,
     number: u64,
     numbers: &[u64],
-    limits: CheckedLimits,
-    units: u64,
+    slice: FirstSlice,
     over: &mut u32,
     told: &mut CallEnded,
 ) -> u32
-    requires { 1 ≤ units }
-    ensures { CallsFor thing.old thing.new number numbers.now limits units over.old over.new told.old told.new result }
+    ensures { CallsFor thing.old thing.new number numbers.now slice.limits slice.units over.old over.new told.old told.new result }
 {
     let Thing::Instance(stage) = thing else {
         return KIND;
     };
     let taken = replace(&mut **stage, InstanceStage::Gone);
-    let (left, status) = call_for_stage(alloc, taken, number, numbers, limits, units, over, told);
+    let (left, status) = call_for_stage(alloc, taken, number, numbers, slice, over, told);
     **stage = left;
     status
 }
@@ -154,7 +147,8 @@ pub extern "C" fn wasmloop_rt_call_for(
     over: &mut u32,
     told: &mut CallEnded,
 ) -> u32
-    ensures calls { 1 ≤ units → (1 ≤ limits.now.depth) × (limits.now.depth ≤ MAX_DEPTH) → CallsForHeld handle.old.raw.value handle.new.raw.value number numbers.now limits.now units over.old over.new told.old told.new result }
+    ensures calls { 1 ≤ units → (1 ≤ limits.now.depth) × (limits.now.depth ≤ MAX_DEPTH)
+        → CallsForHeld handle.old.raw.value handle.new.raw.value number numbers.now limits.now units over.old over.new told.old told.new result }
     ensures range { (units < 1) ⊎ ((limits.now.depth < 1) ⊎ (MAX_DEPTH < limits.now.depth)) → (result ≡ RANGE) × (handle.new ≡ handle.old) × (over.new ≡ over.old) × (told.new ≡ told.old) }
 {
     let Some(limits) = CheckedLimits::of(limits) else {
@@ -163,5 +157,6 @@ pub extern "C" fn wasmloop_rt_call_for(
     if units < 1 {
         return RANGE;
     }
-    on!(handle, alloc, held => call_for(alloc, &mut held, number, numbers, limits, units, over, told))
+    let slice = FirstSlice { limits, units };
+    on!(handle, alloc, held => call_for(alloc, &mut held, number, numbers, slice, over, told))
 }

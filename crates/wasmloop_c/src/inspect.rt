@@ -58,7 +58,7 @@ fn inspected(thing: &Thing) -> Option<(&Linked, &State)>
 {
     match thing {
         Thing::Instance(stage) => of_stage(stage),
-        Thing::Loop(_) => {
+        Thing::Loop(_, _) => {
             let core = resting_in(thing)?;
             Some((core.linked(), core.store()))
         }

@@ -11,14 +11,9 @@ use std::alloc::Global;
 use std::marker::Model;
 
 /// An order that can be run, in any thread. To a contract it is the order.
+#[derive(Drop)]
 pub struct RunnableOrder {
     order: Order,
-}
-
-impl Drop for RunnableOrder {
-    fn drop(self) {
-        let RunnableOrder { order: _ } = self;
-    }
 }
 
 impl Model for RunnableOrder {

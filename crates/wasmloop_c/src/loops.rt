@@ -4,7 +4,7 @@ ghost use Rattle.std.specs.Prelude.{◌≡◌, ◌≤◌, ◌<◌, ◌↔◌, �
 ghost use Rattle.std.specs.Arc.{arc_value};
 ghost use Rattle.limits.specs.declared.TheConstants.{MAX_ASYNCS};
 ghost use Rattle.wasmloop_c.specs.Calls.{AnswersIn, IsDepth, OnLoop, OnResting, OnHeldLoop, ReadsLoop, ReadsHeldLoop, StepsNumbered, Clocks, SendsFromOutside};
-ghost use Rattle.wasmloop_c.specs.Calls.{CancelsNumbered, RequestsNumbered, IsNewLoop, CopiesEmits, loop_of, module_of, standing_of};
+ghost use Rattle.wasmloop_c.specs.Calls.{CancelsNumbered, RequestsNumbered, IsNewLoop, CopiesEmits, turned_callbacks, loop_of, module_of, standing_of};
 ghost use Rattle.wasmloop_c.specs.Numbers.{hint_number};
 ghost use Rattle.phases.specs.PhaseList.{hint_of};
 
@@ -57,7 +57,8 @@ fn opened(
     limits: Limits,
 ) -> Result<Box<Thing, Global>, AllocError>
     requires { IsDepth limits.depth }
-    ensures { IfOk result (λ b. IsSomeAnd (loop_of b.value) (IsNewLoop (arc_value linked.now) limits)) }
+    ensures opens { IfOk result (λ b. IsSomeAnd (loop_of b.value) (IsNewLoop (arc_value linked.now) limits)) }
+    ensures counts { IfOk result (λ b. turned_callbacks b.value ≡ 0) }
 {
     let core = LoopCore::new(
         alloc,
@@ -73,13 +74,14 @@ fn opened(
         number: limits.loop_no,
     };
     let stage = Box::new(alloc, LoopStage::Resting(held))?;
-    Ok(Box::new(alloc, Thing::Loop(stage))?)
+    Ok(Box::new(alloc, Thing::Loop(stage, 0))?)
 }
 
 fn open(alloc: Global, module: &Thing, limits: Limits, handle: &mut Handle) -> u32
     requires depth { IsDepth limits.depth }
     requires empty { handle.old.raw.value ≡ None }
     ensures opens { result ≡ OK → IsSomeAnd (module_of module.now) (λ m. IsSomeAnd handle.new.raw.value (λ t. IsSomeAnd (loop_of t) (IsNewLoop m limits))) }
+    ensures counts { result ≡ OK → IsSomeAnd handle.new.raw.value (λ t. turned_callbacks t ≡ 0) }
     ensures refuses { (result ≡ OK → ⊥) → handle.new.raw.value ≡ None }
     ensures kind { (result ≡ KIND) ↔ (module_of module.now ≡ None) }
     ensures known { (result ≡ OK) ⊎ (result ≡ KIND) ⊎ (result ≡ MEMORY) }
@@ -99,6 +101,7 @@ pub extern "C" fn wasmloop_rt_loop(
     handle: &mut Handle,
 ) -> u32
     ensures opens { result ≡ OK → IsSomeAnd module.old.raw.value (λ m. IsSomeAnd (module_of m) (λ l. IsSomeAnd handle.new.raw.value (λ t. IsSomeAnd (loop_of t) (IsNewLoop l limits.now)))) }
+    ensures counts { result ≡ OK → IsSomeAnd handle.new.raw.value (λ t. turned_callbacks t ≡ 0) }
     ensures refuses { (result ≡ OK → ⊥) → handle.new.raw.value ≡ handle.old.raw.value }
     ensures kept { module.new.raw.value ≡ module.old.raw.value }
     ensures known { AnswersIn handle.old.raw.value module.old.raw.value result (IsDepth limits.now.depth) (λ _. (result ≡ OK) ⊎ (result ≡ MEMORY)) }
@@ -125,7 +128,7 @@ fn step_stage(stage: &mut LoopStage, did: &mut Did) -> u32
 fn step(thing: &mut Thing, did: &mut Did) -> u32
     ensures { OnLoop thing.old thing.new result (did.new ≡ did.old) (λ c d. (result ≡ OK) × StepsNumbered c d did.new) }
 {
-    let Thing::Loop(stage) = thing else {
+    let Thing::Loop(stage, _) = thing else {
         return KIND;
     };
     step_stage(stage, did)
@@ -190,7 +193,7 @@ fn send(thing: &mut Thing, async_no: u32) -> u32
     requires { async_no < MAX_ASYNCS }
     ensures { OnLoop thing.old thing.new result (Unit {0}) (λ c d. SendsFromOutside c d async_no result) }
 {
-    let Thing::Loop(stage) = thing else {
+    let Thing::Loop(stage, _) = thing else {
         return KIND;
     };
     send_stage(stage, async_no)
@@ -221,7 +224,7 @@ fn clock_stage(stage: &mut LoopStage, ms: u64, now: &mut u64) -> u32
 fn clock(thing: &mut Thing, ms: u64, now: &mut u64) -> u32
     ensures { OnLoop thing.old thing.new result (now.new ≡ now.old) (λ c d. (result ≡ OK) × Clocks c d ms now.new) }
 {
-    let Thing::Loop(stage) = thing else {
+    let Thing::Loop(stage, _) = thing else {
         return KIND;
     };
     clock_stage(stage, ms, now)
@@ -282,7 +285,7 @@ fn cancel_stage(stage: &mut LoopStage, request: u32, answer: &mut i32) -> u32
 fn cancel(thing: &mut Thing, request: u32, answer: &mut i32) -> u32
     ensures { OnLoop thing.old thing.new result (answer.new ≡ answer.old) (λ c d. (result ≡ OK) × CancelsNumbered c d request answer.new) }
 {
-    let Thing::Loop(stage) = thing else {
+    let Thing::Loop(stage, _) = thing else {
         return KIND;
     };
     cancel_stage(stage, request, answer)
@@ -314,7 +317,7 @@ fn request_stage(stage: &mut LoopStage, op: u32, bytes: &[u8], answer: &mut i32)
 fn request(thing: &mut Thing, op: u32, bytes: &[u8], answer: &mut i32) -> u32
     ensures { OnLoop thing.old thing.new result (answer.new ≡ answer.old) (λ c d. (result ≡ OK) × RequestsNumbered c d op bytes.now answer.new) }
 {
-    let Thing::Loop(stage) = thing else {
+    let Thing::Loop(stage, _) = thing else {
         return KIND;
     };
     request_stage(stage, op, bytes, answer)

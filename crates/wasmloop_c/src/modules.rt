@@ -14,7 +14,8 @@ use loader::{Refusal, load};
 use std::alloc::{AllocError, Global};
 use std::sync::Arc;
 
-fn boxed(alloc: Global, linked: Linked) -> Result<Box<Thing, Global>, AllocError>
+/// A module of what was loaded.
+pub fn boxed(alloc: Global, linked: Linked) -> Result<Box<Thing, Global>, AllocError>
     requires { IsAccepted linked.bytes linked.contents }
     ensures { IfOk result (λ b. Loads linked.bytes b.value) }
 {

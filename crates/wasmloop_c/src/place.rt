@@ -23,7 +23,7 @@ fn written(alloc: Global, bytes: &[u8], trail: &Trail) -> Result<Vec<u8>, AllocE
 }
 
 /// The words for a place in a module of these bytes, as `tell_stopped` has them.
-fn words(alloc: Global, bytes: &[u8], stop: &StopPlace<'_>) -> Result<Vec<u8>, AllocError> {
+pub fn words(alloc: Global, bytes: &[u8], stop: &StopPlace<'_>) -> Result<Vec<u8>, AllocError> {
     match stop {
         StopPlace::Callback(stop) => written(alloc, bytes, &Trail::of(stop)),
         StopPlace::Job(trail) => written(alloc, bytes, trail),

@@ -109,7 +109,7 @@ fn step_for(thing: &mut Thing, units: u64, over: &mut u32, did: &mut Did) -> u32
     requires { 1 ≤ units }
     ensures { StepsFor thing.old thing.new units over.old over.new did.old did.new result }
 {
-    let Thing::Loop(stage) = thing else {
+    let Thing::Loop(stage, _) = thing else {
         return KIND;
     };
     let (left, end) = slice(replace(&mut **stage, LoopStage::Gone), units);

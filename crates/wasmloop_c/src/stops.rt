@@ -15,7 +15,7 @@ use desk::Desk;
 use instance::stack::{Site as Operation, Stop};
 use order::{Running, Told, Trail};
 use phases::LoopCore;
-use places::{Place, place_of_operation};
+use places::{Place, function_of, place_of_operation};
 use resident::{Calling, Resident};
 use std::alloc::Global;
 
@@ -77,10 +77,11 @@ impl<'a> StopPlace<'a> {
 fn place_of(bytes: &[u8], site: Operation) -> SpelledSite
     ensures { IsByteOf bytes.now site result }
 {
+    let function = function_of(bytes, site.function);
     match place_of_operation(bytes, site.function, site.operation) {
         Some(
             Place::Operation {
-                function,
+                function: _,
                 number,
                 name: _,
                 at,
@@ -91,7 +92,7 @@ fn place_of(bytes: &[u8], site: Operation) -> SpelledSite
             byte: at as u64,
         },
         _ => SpelledSite {
-            function: site.function as u64,
+            function,
             instruction: site.operation as u64,
             byte: 0,
         },
@@ -196,7 +197,7 @@ pub fn stopped(thing: &Thing) -> Option<Stopped<'_>>
     ensures { StopsAs thing.now (option_map (λ s. (option_map told_of s.0, s.1.now)) result) }
 {
     match thing {
-        Thing::Loop(_) => {
+        Thing::Loop(_, _) => {
             let core = resting_in(thing)?;
             Some((stop_of_loop(core), core.module_bytes()))
         }

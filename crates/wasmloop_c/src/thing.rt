@@ -18,8 +18,8 @@ use std::sync::Arc;
 pub enum Thing {
     /// A module.
     Module(Arc<Linked, Global>),
-    /// A loop, in room that a step in slices has too.
-    Loop(Box<LoopStage, Global>),
+    /// A loop, in room that a step in slices has too, and how many callbacks its turns have run in the iteration under way.
+    Loop(Box<LoopStage, Global>, u32),
     /// A job. Its room is as large at each stage, so that none takes memory that the others didn't.
     Job(Box<JobStage, Global>),
     /// An instance that is kept from call to call, in room that a call in slices has too.
@@ -67,7 +67,7 @@ pub enum InstanceStage {
 pub fn resting_in(thing: &Thing) -> Option<&LoopCore<Desk>>
     ensures { option_map (λ c. c.now) result ≡ loop_of thing.now }
 {
-    let Thing::Loop(stage) = thing else {
+    let Thing::Loop(stage, _) = thing else {
         return None;
     };
     let LoopStage::Resting(held) = &**stage else {

@@ -1,8 +1,8 @@
 // Turns: a loop's steps up to where its owner has something to do.
 
 ghost use Rattle.std.specs.Prelude.{◌≡◌, ◌≤◌, ◌<◌};
-ghost use Rattle.wasmloop_c.specs.Calls.{OnLoop, OnResting, OnHeldLoop, StepsNumbered};
-ghost use Rattle.wasmloop_c.specs.Turning.{begun_callbacks, ends_turn, wait_after, TurnSteps, Turns};
+ghost use Rattle.wasmloop_c.specs.Calls.{OnResting, StepsNumbered};
+ghost use Rattle.wasmloop_c.specs.Turning.{counted_after, ends_turn, wait_after, TurnSteps, Turns, TurnsHeldLoop, TurnsLoop};
 
 use crate::did::{Did, ENTERED, RAN, RETURN, SKIPPED, TIMERS};
 use crate::handle::{Handle, on};
@@ -27,14 +27,14 @@ pub struct Turned {
     pub zero: u32,
 }
 
-/// How many callbacks ran in this iteration: none where the call before entered the timers phase.
-pub fn begun(turned: &Turned) -> u32
-    ensures { result ≡ begun_callbacks turned.now }
+/// How many callbacks ran in the iteration that the next turn goes on with: none where a turn that told this entered the timers phase.
+pub fn counted_after(told: &Turned) -> u32
+    ensures { result ≡ counted_after told.now }
 {
-    if turned.did.what == ENTERED && turned.did.phase == TIMERS {
+    if told.did.what == ENTERED && told.did.phase == TIMERS {
         0
     } else {
-        turned.callbacks
+        told.callbacks
     }
 }
 
@@ -95,40 +95,41 @@ pub fn wait_of(core: &LoopCore<Desk>, did: &Did, callbacks: u32) -> u64
     ms_of(core.hint())
 }
 
-fn turn_core(core: &mut LoopCore<Desk>, most: u32, told: &mut Turned)
+fn turn_core(core: &mut LoopCore<Desk>, callbacks: &mut u32, most: u32, told: &mut Turned)
     requires { 1 ≤ most }
-    ensures turns { Turns core.old core.new most told.old told.new }
+    ensures turns { Turns core.old core.new most callbacks.old callbacks.new told.new }
     ensures setting { core.new.setting ≡ core.old.setting }
 {
-    let begun = begun(told);
     let ran = take_steps(core, most, &mut told.did);
-    told.callbacks = begun.saturating_add(ran);
+    told.callbacks = callbacks.saturating_add(ran);
     told.wait = wait_of(core, &told.did, told.callbacks);
+    told.zero = 0;
+    *callbacks = counted_after(told);
 }
 
-fn turn_stage(stage: &mut LoopStage, most: u32, told: &mut Turned) -> u32
+fn turn_stage(stage: &mut LoopStage, callbacks: &mut u32, most: u32, told: &mut Turned) -> u32
     requires { 1 ≤ most }
-    ensures { OnResting stage.old stage.new result (told.new ≡ told.old) (λ c d. (result ≡ OK) × Turns c d most told.old told.new) }
+    ensures { OnResting stage.old stage.new result ((callbacks.new ≡ callbacks.old) × (told.new ≡ told.old)) (λ c d. (result ≡ OK) × Turns c d most callbacks.old callbacks.new told.new) }
 {
     let LoopStage::Resting(held) = stage else {
         return KIND;
     };
-    turn_core(&mut held.core, most, told);
+    turn_core(&mut held.core, callbacks, most, told);
     OK
 }
 
 fn turn(thing: &mut Thing, most: u32, told: &mut Turned) -> u32
     requires { 1 ≤ most }
-    ensures { OnLoop thing.old thing.new result (told.new ≡ told.old) (λ c d. (result ≡ OK) × Turns c d most told.old told.new) }
+    ensures { TurnsLoop thing.old thing.new most told.old told.new result }
 {
-    let Thing::Loop(stage) = thing else {
+    let Thing::Loop(stage, callbacks) = thing else {
         return KIND;
     };
-    turn_stage(stage, most, told)
+    turn_stage(stage, callbacks, most, told)
 }
 
 /// Takes steps of a loop until it enters its timers phase, a callback emits values or does not return, or so many callbacks have run, or it is
-/// over or has failed.
+/// over or has failed. The loop keeps how many callbacks its turns have run in an iteration.
 #[unsafe(no_mangle)]
 pub extern "C" fn wasmloop_rt_turn(
     alloc: Global,
@@ -136,7 +137,7 @@ pub extern "C" fn wasmloop_rt_turn(
     most: u32,
     told: &mut Turned,
 ) -> u32
-    ensures turns { 1 ≤ most → OnHeldLoop handle.old.raw.value handle.new.raw.value result (told.new ≡ told.old) (λ c d. (result ≡ OK) × Turns c d most told.old told.new) }
+    ensures turns { 1 ≤ most → TurnsHeldLoop handle.old.raw.value handle.new.raw.value most told.old told.new result }
     ensures range { most < 1 → (result ≡ RANGE) × (handle.new ≡ handle.old) × (told.new ≡ told.old) }
 {
     if most < 1 {

@@ -1,14 +1,14 @@
 // Turns in slices.
 
 ghost use Rattle.std.specs.Prelude.{◌≡◌, ◌≤◌, ◌<◌, ◌⊎◌};
-ghost use Rattle.wasmloop_c.specs.TurnSlices.{TakesSlice, TakesSlices, TurnsFor, TurnsHeld, TurnsStage, WaitsFor, used_in};
+ghost use Rattle.wasmloop_c.specs.TurnSlices.{TakesSlice, TakesSlices, TurnsFor, TurnsHeld, TurnsStage, WaitsFor, counted_for, used_in};
 
 use crate::did::{Did, RAN};
 use crate::handle::{Handle, on};
 use crate::status::{KIND, OK, RANGE};
 use crate::step_slices::{SliceEnd, slice};
 use crate::thing::{LoopStage, Thing};
-use crate::turn::{Turned, begun, ends, wait_of};
+use crate::turn::{Turned, counted_after, ends, wait_of};
 use std::alloc::Global;
 use std::mem::replace;
 
@@ -138,22 +138,35 @@ fn wait_for(left: &TurnLeft, did: &Did, callbacks: u32) -> u64
     }
 }
 
+/// How many callbacks ran in the iteration that the next call goes on with.
+fn counted_for(over: u32, told: &Turned) -> u32
+    ensures { result ≡ counted_for over told.now }
+{
+    if over == 1 {
+        counted_after(told)
+    } else {
+        told.callbacks
+    }
+}
+
 fn turn_stage(
     stage: LoopStage,
+    callbacks: &mut u32,
     most: u32,
     units: u64,
     over: &mut u32,
     told: &mut Turned,
 ) -> (LoopStage, u32)
     requires { (1 ≤ most) × (1 ≤ units) }
-    ensures { TurnsStage stage result.0 most units over.old over.new told.old told.new result.1 }
+    ensures { TurnsStage stage callbacks.old result.0 callbacks.new most units over.old over.new told.old told.new result.1 }
 {
-    let begun = begun(told);
     let left = take_slices(stage, most, units, &mut told.did);
     if left.status == OK {
         *over = left.over;
-        told.callbacks = begun.saturating_add(left.ran);
+        told.callbacks = callbacks.saturating_add(left.ran);
         told.wait = wait_for(&left, &told.did, told.callbacks);
+        told.zero = 0;
+        *callbacks = counted_for(left.over, told);
     }
     (left.stage, left.status)
 }
@@ -162,11 +175,11 @@ fn turn_for(thing: &mut Thing, most: u32, units: u64, over: &mut u32, told: &mut
     requires { (1 ≤ most) × (1 ≤ units) }
     ensures { TurnsFor thing.old thing.new most units over.old over.new told.old told.new result }
 {
-    let Thing::Loop(stage) = thing else {
+    let Thing::Loop(stage, callbacks) = thing else {
         return KIND;
     };
     let taken = replace(&mut **stage, LoopStage::Gone);
-    let (left, status) = turn_stage(taken, most, units, over, told);
+    let (left, status) = turn_stage(taken, callbacks, most, units, over, told);
     **stage = left;
     status
 }

@@ -133,7 +133,7 @@ fn next_job(alloc: Global, thing: &mut Thing, job: &mut Handle) -> u32
     requires { job.old.raw.value ≡ None }
     ensures { OnLoop thing.old thing.new result (job.new.raw.value ≡ None) (λ c d. HandsOut c d job.new.raw.value result) }
 {
-    let Thing::Loop(stage) = thing else {
+    let Thing::Loop(stage, _) = thing else {
         return KIND;
     };
     next_job_of(alloc, stage, job)
@@ -242,7 +242,7 @@ fn start_stage(stage: &mut LoopStage, job: &Thing) -> u32
 fn start(thing: &mut Thing, job: &Thing) -> u32
     ensures { OnLoop thing.old thing.new result (Unit {0}) (λ c d. StartsOfLoop c d job.now result) }
 {
-    let Thing::Loop(stage) = thing else {
+    let Thing::Loop(stage, _) = thing else {
         return KIND;
     };
     start_stage(stage, job)
@@ -299,7 +299,7 @@ fn accept_stage(stage: &mut LoopStage, job: &mut Thing) -> u32
 fn accept(thing: &mut Thing, job: &mut Thing) -> u32
     ensures { OnLoop thing.old thing.new result (job.new ≡ job.old) (λ c d. OffersReply c d job.old (job.new ≡ job.old) (Unit {0}) result) }
 {
-    let Thing::Loop(stage) = thing else {
+    let Thing::Loop(stage, _) = thing else {
         return KIND;
     };
     accept_stage(stage, job)

@@ -6,31 +6,15 @@ use std::alloc::Global;
 use std::sync::Arc;
 
 /// One loop of a world: its module, and what its runs may spend.
+#[derive(Drop)]
 pub struct LoopConfig {
     pub linked: Arc<Linked, Global>,
     pub settings: LoopSettings,
 }
 
-impl Drop for LoopConfig {
-    fn drop(self) {
-        let LoopConfig {
-            linked: _,
-            settings: _,
-        } = self;
-    }
-}
-
 /// What a world is made of: its loops, 1 to `MAX_LOOPS`, and how many workers it has, at most `MAX_WORKERS`.
+#[derive(Drop)]
 pub struct Config {
     pub loops: Vec<LoopConfig>,
     pub workers: u32,
-}
-
-impl Drop for Config {
-    fn drop(self) {
-        let Config {
-            loops: _,
-            workers: _,
-        } = self;
-    }
 }

@@ -34,6 +34,7 @@ const MAX_UNDONE: usize = 16;
 
 /// Some loops and workers, which take turns in one thread, step by step. Contracts see the loops, the jobs that no
 /// worker took, what each worker has, and the replies that no loop was offered.
+#[derive(Drop)]
 pub struct World {
     alloc: Global,
     loops: Vec<LoopCore<Desk>>,
@@ -41,19 +42,6 @@ pub struct World {
     workers: Vec<Worker>,
     replies: Vec<VecDeque<Reply>>,
     undone: Vec<Undone>,
-}
-
-impl Drop for World {
-    fn drop(self) {
-        let World {
-            alloc: _,
-            loops: _,
-            jobs: _,
-            workers: _,
-            replies: _,
-            undone: _,
-        } = self;
-    }
 }
 
 impl Model for World {

@@ -8,14 +8,9 @@ use std::marker::Model;
 
 /// What a world did, one entry for each step, the oldest first. Contracts see the list of its entries, and for how many
 /// more there is room.
+#[derive(Drop)]
 pub struct Log {
     entries: Vec<LogEntry>,
-}
-
-impl Drop for Log {
-    fn drop(self) {
-        let Log { entries: _ } = self;
-    }
 }
 
 impl Model for Log {

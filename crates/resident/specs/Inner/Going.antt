@@ -54,8 +54,8 @@ abbrev pub inside_call : Loaded → Store → Machine → Paused → CallUnderwa
 inside_call loaded store machine paused = call_underway loaded store machine (Inside paused)
 
 -- and of the instance, where it is over
-abbrev pub resting : Loaded → Store → Machine → KeptInstance
-resting loaded store machine = record { loaded = loaded; store = store; stop = stop_of machine.last machine.frames.items }
+abbrev pub at_rest : Loaded → Store → Machine → KeptInstance
+at_rest loaded store machine = record { loaded = loaded; store = store; stop = stop_of machine.last machine.frames.items }
 
 -- The machine fits the module, the store is one of the module, and some call has come there.
 pub record CallIsGoing (loaded : Loaded) (store : Store) (machine : Machine) (place : CallPlace) : Type 0 where

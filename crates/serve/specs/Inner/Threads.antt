@@ -19,9 +19,9 @@ abbrev pub HandsOutNone : LoopRecord → Type 0
 HandsOutNone r = (next_order_of r.core.loop.state).0 ≡ None
 
 -- the job that comes next, if there is one
-abbrev pub jobs_in : {J : Type 0} → Option (Option J) → List J
-jobs_in None = []
-jobs_in (Some made) = option_to_list made
+abbrev pub jobs_of : {J : Type 0} → Option (Option J) → List J
+jobs_of None = []
+jobs_of (Some made) = option_to_list made
 
 module _ {J : Type 0} (ticket : J → Ticket) where
   -- a history of the loop, which is tied to its pass and to these jobs, and in which what is found started was handed out before

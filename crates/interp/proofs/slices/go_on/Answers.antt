@@ -3,8 +3,8 @@ use Rattle.interp.proofs.CountsOfResults.{count_is}
 use Rattle.interp.proofs.Slots.CallsBegin.{few_results}
 use Rattle.interp.proofs.slices.go_on.Goals as goal
 
-pub returns-in_err-ended-clause-paused : goal.returns-in_err-ended-clause-paused
-returns-in_err-ended-clause-paused g c _ s before args fuel q = c.in_err-ended.ensures.paused refl s before args fuel q
+pub returns-in_err-over-clause-paused : goal.returns-in_err-over-clause-paused
+returns-in_err-over-clause-paused g c _ s before args fuel q = c.in_err-over.ensures.paused refl s before args fuel q
 
 pub slice_bounds-places-end : goal.slice_bounds-places-end
 slice_bounds-places-end g c =

@@ -7,8 +7,8 @@ use Rattle.serve.proofs.threads.join_loops.Goals as goal
 pub loop-thread-preserved-in-Ok : goal.loop-thread-preserved-in-Ok
 loop-thread-preserved-in-Ok g c =
     let kept = c.loop-thread.invariant in
-    let served = c.loop-thread.served.items in
-    let passes = c.loop-thread.passes.items in
+    let served = c.loop-thread.ended.served.items in
+    let passes = c.loop-thread.ended.passes.items in
     let rest = c.loop-thread.thread-iterator.rest.items in
     let more = c.next.new.self.rest.items in
     let thread = c.in-Some.thread in
@@ -17,7 +17,7 @@ loop-thread-preserved-in-Ok g c =
     let first = c.push_reserved.ensures in
     let second = c.push_reserved-in-Ok.ensures in
     let third = c.push_reserved-in-Ok-2.ensures in
-    let seats = c.loop-thread.seats.items in
+    let seats = c.loop-thread.ended.seats.items in
     let seats_longer = longer_by seats c.in-Ok.seat c.push_reserved-in-Ok-2.new.self.items third.items in
     let seats_capacity = third.capacity in
     let seats_room = kept.2 in

@@ -1,6 +1,4 @@
-use Rattle.interp.proofs.Words.{ap, arith, Caller, IfSome, Last, length, List, MAX_DEPTH, None, Option, refl, Some, subst, sym, ◌∙◌, ◌≡◌, ◌≤◌}
-use Rattle.events.specs.declared.ended.BareEnded.{BareEnded}
-use Rattle.std.proofs.lemmas.Option.{IfSome_then}
+use Rattle.interp.proofs.Words.{ap, arith, Caller, length, List, MAX_DEPTH, refl, subst, sym, ◌∙◌, ◌≡◌, ◌≤◌}
 use Rattle.interp.proofs.OnMachines.{paused_in, take_seam}
 use Rattle.interp.proofs.machine.Machine.go_on_lent.Goals as goal
 
@@ -17,20 +15,19 @@ go_on_lent-requires-clause-paused g c =
     )
 
 pub returns-clause-over : goal.returns-clause-over
-returns-clause-over g c =
+returns-clause-over g c s before args fuel paused =
     let m = c.args.self.now in
     let n = c.go_on_lent.new in
     let p = c.args.slice.now.paused in
     let moves = g.H.Host.moves in
     let seam = take_seam _ n.frames _ (c.go_on_lent.auto.frames ∙ c.as_mut_slice-callers.ensures.len) in
-    IfSome_then c.go_on_lent.result c.go_on_lent.ensures.over (λ ended over s before args fuel paused.
     let here =
     paused_in moves _ _ _ _ _ _ (sym c.contents.ensures.same) (sym (c.as_slice.ensures ∙ c.deref.ensures)) (sym c.as_mut_slice-callers.ensures.value)
     s c.args.state.now before c.args.host.now args fuel p m.slots paused in
-    rw (c.contents.ensures.same, ← seam) at (over s before args fuel here))
+    rw (c.contents.ensures.same, ← seam) at (c.in_ok-over.ensures.over s before args fuel here)
 
-pub returns-clause-paused : goal.returns-clause-paused
-returns-clause-paused g c none s before args fuel paused =
+pub returns-in_err-over-clause-paused : goal.returns-in_err-over-clause-paused
+returns-in_err-over-clause-paused g c none s before args fuel paused =
     let m = c.args.self.now in
     let n = c.go_on_lent.new in
     let tables = c.as_slice.ensures ∙ c.deref.ensures in
@@ -39,13 +36,22 @@ returns-clause-paused g c none s before args fuel paused =
     s c.args.state.now before c.args.host.now args fuel c.args.slice.now.paused m.slots paused in
     let seam = take_seam _ n.frames _ (c.go_on_lent.auto.frames ∙ c.as_mut_slice-callers.ensures.len) in
     paused_in g.H.Host.moves _ _ _ _ _ _ c.contents.ensures.same tables (sym seam) s n.state before n.host args fuel n.slice.paused n.slots
-    (c.go_on_lent.ensures.paused none s before args fuel here)
+    (c.in_err-over.ensures.paused refl s before args fuel here)
 
--- where it was over is kept, or what was kept before
-kept_shallow : (r : Option BareEnded) (old new : Option Last) → IfSome old (λ l. l.depth ≤ MAX_DEPTH) → IfSome r (λ ended. IfSome new (λ l. l.depth ≤ MAX_DEPTH)) → (r ≡ None → new ≡ old)
-    → IfSome new (λ l. l.depth ≤ MAX_DEPTH)
-kept_shallow None old new before after same = rw (same refl) before
-kept_shallow (Some ended) old new before after same = after
+pub returns-in_err-over-clause-fits : goal.returns-in_err-over-clause-fits
+returns-in_err-over-clause-fits g c =
+    let fits = c.requires.fits in
+    let room = fits.room in
+    let n = c.go_on_lent.new in
+    let as_many = c.go_on_lent.auto.frames in
+    let callers = ap (λ (frames : List Caller). length frames) c.as_mut_slice-callers.ensures.value in
+    let seam = take_seam _ n.frames _ (c.go_on_lent.auto.frames ∙ c.as_mut_slice-callers.ensures.len) in
+    record {
+      valid = fits.valid;
+      agree = fits.agree;
+      room = subst (λ (frames : List Caller). MAX_DEPTH ≤ length frames) (sym seam) (omega (arith, as_many, callers, room));
+      shallow = fits.shallow;
+    }
 
 pub returns-clause-fits : goal.returns-clause-fits
 returns-clause-fits g c =
@@ -59,5 +65,5 @@ returns-clause-fits g c =
       valid = fits.valid;
       agree = fits.agree;
       room = subst (λ (frames : List Caller). MAX_DEPTH ≤ length frames) (sym seam) (omega (arith, as_many, callers, room));
-      shallow = kept_shallow c.go_on_lent.result c.args.self.now.last n.ended_at fits.shallow c.go_on_lent.ensures.callers c.go_on_lent.ensures.same;
+      shallow = c.in_ok-over.ensures.callers;
     }

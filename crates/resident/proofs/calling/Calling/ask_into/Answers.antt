@@ -3,7 +3,7 @@ use Rattle.std.specs.Prelude.{take}
 use Rattle.events.specs.declared.ended.Ending.TheVariants.{Return}
 use Rattle.reduction.specs.Run.{as_operands}
 use Rattle.interp.specs.Lent.{result_count}
-use Rattle.resident.specs.declared.kept.Kept.{Kept}
+use Rattle.resident.specs.declared.kept.InstanceRoom.{InstanceRoom}
 use Rattle.resident.proofs.SlicesAreOneCall.{import_count, import_over}
 use Rattle.resident.proofs.Through.{some_of}
 use Rattle.resident.proofs.calling.Calling.ask_into.Goals as goal
@@ -16,7 +16,7 @@ told_as n places values k same is = ap (λ (vs : List Value). record { ending = 
 pub returns : goal.returns
 returns c =
     let x = c.args.self in
-    let loaded = c.valid.ensures.same ∙ c.deref-2.ensures ∙ ap (λ (k : Kept). arc_value k.linked) c.deref.ensures ∙ ap (λ (x : CallUnderway). x.loaded) c.self.view_is in
+    let loaded = c.valid.ensures.same ∙ c.deref-2.ensures ∙ ap (λ (k : InstanceRoom). arc_value k.linked) c.deref.ensures ∙ ap (λ (x : CallUnderway). x.loaded) c.self.view_is in
     let some = some_of c.self.inside.kept.value x c.self.view_is c.self.invariant.some in
     let count = import_count x c.requires.place c.valid.result.now loaded c.args.function (sym c.requires.function) c.answer.ensures.names c.answer.result
     c.answer.ensures.value c.answer.ensures.typed some in

@@ -2,14 +2,14 @@ use Rattle.syntax.specs.Loaded.{Loaded}
 use Rattle.resident.specs.Underway.{ComesTo}
 use Rattle.resident.proofs.Words.{arc_value, call_underway, refl, subst, sym, ◌∙◌, ◌≡◌}
 use Rattle.resident.specs.Inner.Going.{IsResting, paused_at}
-use Rattle.resident.specs.declared.kept.Kept.{Kept}
+use Rattle.resident.specs.declared.kept.InstanceRoom.{InstanceRoom}
 use Rattle.resident.proofs.resident.Resident.begin.Goals as goal
 
 pub invariant_of-result : goal.invariant_of-result
 invariant_of-result c =
     let i = c.deref_mut.result.now in
     let v : IsResting (arc_value i.linked) i.state i.machine =
-    subst (λ (k : Kept). IsResting (arc_value k.linked) k.state k.machine) (sym c.deref_mut.ensures.value) c.into_kept-kept.ensures.resting in
+    subst (λ (k : InstanceRoom). IsResting (arc_value k.linked) k.state k.machine) (sym c.deref_mut.ensures.value) c.into_kept-kept.ensures.at_rest in
     let loaded : c.valid.result.now ≡ arc_value i.linked = c.valid.ensures.same ∙ c.deref.ensures in
     let b = c.begin_call.ensures in
     let place = c.begin_call.result in

@@ -1,0 +1,235 @@
+"""Guests that choose how long things are, to the harm of the package and its tools: numbers, names, logs, source lines, call trees, questions
+and emitted values. Each ends in seconds and within some megabytes, as an error of the package or with what could be told.
+
+usage: PYTHONPATH=capi/python WASMLOOP_LIBRARY=LIBRARY hostile_test.py OUT [PART..]
+"""
+
+import asyncio
+import os
+import resource
+import subprocess
+import sys
+import time
+from pathlib import Path
+
+import expecting
+from expecting import TOP, run, same
+from wasmloop import Error, Module, _tool, ask, lines, log, profile, record, runs, served, wasm
+from wasmloop.wasm import CODE, EXPORT, FUNCTION, MEMORY, TABLE, TYPE, i32, sized, text, u, vec
+
+OUT = Path(sys.argv[1])
+ELEMENT, SECONDS, MEGABYTES = 9, 20, 600
+NOP, END, DROP, ADD, LOCAL_GET, GET_0, SET_0 = b"\x01", b"\x0b", b"\x1a", b"\x6a", 0x20, b"\x20\0", b"\x21\0"
+
+
+def module(bodies, exports, types=(b"\x60\0\0",), kinds=None, parts=None, custom=()):
+    """A module of these bodies, without their size and locals; `exports` names functions by their index."""
+    sections = {TYPE: vec(types), FUNCTION: vec([u(it) for it in kinds or [0] * len(bodies)]),
+                EXPORT: vec([text(name) + b"\0" + u(at) for name, at in exports.items()]),
+                CODE: vec([sized(b"\0" + it + END) for it in bodies]), **(parts or {})}
+    held = b"".join(bytes([kind]) + sized(it) for kind, it in sorted(sections.items()))
+    return b"\0asm\1\0\0\0" + held + b"".join(b"\0" + sized(text(name) + it) for name, it in custom)
+
+
+def names(*given):
+    """The section with the names of functions."""
+    return "name", b"\1" + sized(vec([u(at) + text(name) for at, name in enumerate(given)]))
+
+
+def ended(what, call, *kinds):
+    """What a call raised or returned, within the time."""
+    began = time.process_time()
+    try:
+        found = call()
+    except kinds as why:
+        found = why
+    took = time.process_time() - began
+    same(f"{what}: seconds", took < SECONDS or took, True)
+    return found
+
+
+def numbers():
+    """A number in a million bytes, behind a section that the host does not read."""
+    for what, held in (("a size", b"\1" + b"\xff" * 1_000_000), ("a count", b"\1" + u(900_000) + b"\xff" * 900_000)):
+        data = module([b""], {"f": 0}, custom=[("name", held)])
+        found = ended(what, lambda data=data: wasm.Module(data), wasm.Malformed)
+        same(what, type(found).__name__, "Malformed")
+
+
+def long_names():
+    """A function that calls itself, with a name of 900,000 letters, and one that writes to a terminal."""
+    # f(n): if n, call f(n - 1)
+    body = GET_0 + b"\x04\x40" + GET_0 + i32(-1) + ADD + b"\x10\0" + END
+    for name in ("a" * 900_000, "\x1b]0;title\x07" * 10):
+        data = module([body], {"f": 0}, [b"\x60\1\x7f\0"], custom=[names(name)])
+        with Module(data) as host:
+            made = ended("names", lambda data=data, host=host: profile.Profile(wasm.Module(data), runs.Call(data, host, "f", (100,), 128)))
+        same("the paths of a profile", sum(map(len, made.paths)) < 10_000_000, True)
+        same("what they are printed as", all(it.isprintable() for it in made.paths), True)
+
+
+def logs():
+    """Rings of a size that no guest needs, at no address, and functions of another type."""
+    memory = {MEMORY: vec([b"\0\1"])}
+    types = [b"\x60\0\1\x7f", b"\x60\1\x7f\1\x7f", b"\x60\0\0", b"\x60\0\2\x7f\x7f"]
+    store = b"\x36\2\0"
+    bodies = {"size 0": (0, i32(0) + i32(0) + store + i32(4) + i32(1) + store + i32(0)), "size 2^31": (0, i32(0) + i32(1 << 31) + store + i32(0)),
+              "no address": (0, i32(-1)), "an argument": (1, i32(0)), "no result": (2, b""), "two results": (3, i32(0) + i32(0)),
+              "endless": (0, b"\x03\x40\x0c\0\x0b\0")}
+    for what, (kind, body) in bodies.items():
+        data = module([body], {log.EXPORT: 0}, types, [kind], memory)
+        with Module(data) as host, host.instance() as it:
+            found = ended(f"log, {what}", lambda it=it: log.read(it), Error)
+            same(f"log, {what}", isinstance(found, Error) or found == [], True)
+
+
+def questions():
+    """What looks like a plug-in that asks."""
+    types = [b"\x60\0\1\x7f", b"\x60\1\x7f\1\x7f", b"\x60\0\2\x7f\x7f", b"\x60\0\0"]
+    memory = {MEMORY: vec([b"\0\1"])}
+
+    async def answer(_):
+        return b""
+
+    for what, kinds, body, expected in (("two results", [2, 1, 3], i32(0) + i32(0), "NoneType"), ("an argument", [1, 1, 3], i32(0), "NoneType"),
+                                        ("no memory there", [0, 1, 3], i32(-16), "OutOfRange"), ("ever more", [0, 1, 3], i32(16), "Stopped")):
+        data = module([body, i32(0), b""], {"ask_next": 0, "ask_answer": 1, "f": 2}, types, kinds, memory)
+        with Module(data) as host, ask.Plugin(host, answer) as plugin:
+            found = ended(f"a question, {what}", lambda plugin=plugin: asyncio.run(plugin.call("f", fuel=20_000)), Error)
+        same(f"a question, {what}", type(found).__name__, expected)
+
+
+def unlike():
+    """A debug module whose functions are large, and have little in common with those that ran."""
+    mine = b"".join(b"\x41" + u(k % 60) + DROP for k in range(60_000))
+    its = b"".join(b"\x41" + u(k * 7 % 60) + DROP + NOP for k in range(60_000))
+    ran = module([mine], {"f": 0})
+    debug = module([its], {"f": 0}, custom=[(".debug_line", b"")])
+    found = ended("two functions without much in common", lambda: lines.Lines(ran, debug).address(len(ran) // 2))
+    same("it has some address", found > 0, True)
+
+
+def broken():
+    """Debug modules that end too soon, in a function too: the sentence on a trap stays."""
+    ran = module([b"\0"], {"f": 0}, custom=[names("f")])
+    for body in (b"\x0e" + u(1 << 31), b"\x0e\xff", b"\xfc\x7f", b"\x02" * 100_000):
+        debug = module([body + NOP * 3], {"f": 0}, custom=[names("f"), (".debug_line", b"")])
+        for cut in (debug, debug[:-1], debug[:-16] + b"\0\0"):
+            same("a debug module", type(ended("a debug module", lambda cut=cut: told_by(ran, cut), ValueError)).__name__ in ("str", "ValueError"), True)
+
+
+def told_by(ran, debug):
+    """The sentence on a trap, with a debug module."""
+    with Module(ran, debug) as host, host.instance() as it:
+        try:
+            it.call("f")
+        except Error as why:
+            return it.stop_told(ran) + str(why)
+    return None
+
+
+def symbolizers():
+    """A symbolizer that does not end, or prints without end, as a real one may where the DWARF says so."""
+    ran = module([b"\0"], {"f": 0})
+    debug = module([b"\0"], {"f": 0}, custom=[(".debug_line", b"")])
+    before, lines.SECONDS = lines.SECONDS, 1
+    for name, text_of in (("sleeps", "exec sleep 100"), ("prints", "exec yes"), ("fails", "exit 3")):
+        file = OUT / name
+        file.write_text(f"#!/bin/sh\n{text_of}\n")
+        file.chmod(0o755)
+        os.environ["SYMBOLIZER"] = str(file)
+        began = time.monotonic()
+        found = ended(name, lambda: lines.Lines(ran, debug).of(len(ran) - 2), _tool.Failed)
+        same(f"a symbolizer that {name}", (type(found).__name__, time.monotonic() - began < SECONDS), ("Failed", True))
+        same("the sentence without a line", "unreachable" in told_by(ran, debug), True)
+    del os.environ["SYMBOLIZER"]
+    lines.SECONDS = before
+
+
+def siblings():
+    """A loop that calls 4,000 functions in turn: a call tree looks each up among its siblings."""
+    count = 4000
+    # f(n): do { call_indirect(n % count) } while (n -= 1)
+    loop = b"\x03\x40" + GET_0 + i32(count) + b"\x70\x11\0\0" + GET_0 + i32(-1) + ADD + b"\x22\0" + b"\x0d\0" + END
+    parts = {TABLE: vec([b"\x70\0" + u(count)]), ELEMENT: vec([b"\0" + i32(0) + END + vec([u(it) for it in range(count)])])}
+    data = module([b""] * count + [loop], {"f": count}, [b"\x60\0\0", b"\x60\1\x7f\0"], [0] * count + [1], parts)
+    with Module(data) as host:
+        call = runs.Call(data, host, "f", (20_000,))
+        made = ended("a call tree with 4,000 siblings", lambda: profile.Profile(wasm.Module(data), call))
+    same("its units", made.ran.used > 100_000, True)
+
+
+FLOOD_C = r"""
+#include "uv.h"
+static void again(int32_t idle) { for (int k = 0; k < 64; k++) uv_emit(k); (void)idle; }
+UV_MAIN() { uv_idle_start(uv_idle_init(), again); }
+"""
+
+
+def floods():
+    """A guest that emits without end: to a host that does not read, to one that reads slowly, and to a record."""
+    (OUT / "flood.c").write_text(FLOOD_C)
+    run("clang", "--target=wasm32", "-mcpu=mvp", "-O2", "-I", TOP / "examples", "-c", "-o", OUT / "flood.o", OUT / "flood.c")
+    run("wasm-ld", "--no-entry", "--export-table", "-z", "stack-size=16384", "-o", OUT / "flood.wasm", OUT / "flood.o")
+    data = (OUT / "flood.wasm").read_bytes()
+
+    async def unread(host):
+        async with served.Served(host) as loop:
+            while len(loop._out) < served.MOST_EMITTED:
+                await asyncio.sleep(0.01)
+            await asyncio.sleep(0.2)
+            return len(loop._out)
+
+    async def slow(host):
+        async with served.Served(host) as loop:
+            async for _ in loop.emits():
+                await asyncio.sleep(0)
+                if len(loop._out) >= served.MOST_EMITTED:
+                    await asyncio.sleep(0.2)
+                    return len(loop._out)
+
+    with Module(data) as host:
+        same("nobody reads", ended("nobody reads", lambda: asyncio.run(unread(host))) <= served.MOST_EMITTED + 64, True)
+        same("a slow reader", ended("a slow reader", lambda: asyncio.run(slow(host))) <= served.MOST_EMITTED + 64, True)
+        with record.Loop(host, data, str(OUT / "flood.record"), 0) as loop:
+            ending, emits, _ = ended("a record", lambda: record.serve(loop, record.Workers(1), 60))
+        same("a record", (ending, len(emits) <= record.MOST_VALUES + 64), ("limit", True))
+
+
+def statuses():
+    """Tools whose work was not done do not end with 0."""
+    plain = OUT / "plain.wasm"
+    plain.write_bytes(module([b""], {"uv_work": 0}, [b"\x60\1\x7f\1\x7f"], parts={CODE: vec([sized(b"\0" + i32(0) + END)])}))
+    (OUT / "empty").write_bytes(b"")
+    wrong = [("log", plain), ("lines", plain, "--byte", "3"), ("lines", plain, "--", "false"), ("cover", plain, "--least", "1"),
+             ("cover", plain, "--lcov", "x"), ("profile", plain, "--call", "nosuch"), ("profile", plain, "--budget", "0"),
+             ("fuzz", plain, "0", OUT / "nosuch"), ("freeze", plain, "-o", OUT / "x", "--call", "nosuch"),
+             ("replay", plain), ("replay", OUT / "empty"), ("plugin_record", plain), ("bind", OUT / "empty.h"), ("lower", OUT / "empty", OUT / "x"),
+             ("ask", OUT / "empty", OUT / "x"), ("record", OUT / "empty", "-o", OUT / "x"), ("cover", OUT / "empty"), ("lower", plain, OUT / "no" / "folder")]
+    for tool, *words in wrong:
+        done = subprocess.run([sys.executable, "-m", f"wasmloop.{tool}", *map(str, words)], capture_output=True, text=True, check=False)
+        same(f"{tool} {' '.join(map(str, words))}: its status", done.returncode != 0, True)
+        same(f"{tool}: a sentence and no traceback", (bool(done.stderr.strip()) or bool(done.stdout.strip()), "Traceback" in done.stderr), (True, False))
+    for script in ("install.sh", "dist/prove.sh", "dist/pack.sh"):
+        for words in (["--nosuch"], ["--prefix=/x", "y"]):
+            done = subprocess.run([str(TOP / script), *words], capture_output=True, cwd=OUT, env={**os.environ, "PREFIX": str(OUT / "none")}, check=False)
+            same(f"{script} {words}: its status", done.returncode != 0, True)
+
+
+PARTS = numbers, long_names, logs, questions, unlike, broken, symbolizers, siblings, floods, statuses
+
+
+def main():
+    OUT.mkdir(parents=True, exist_ok=True)
+    for part in PARTS:
+        if sys.argv[2:] and part.__name__ not in sys.argv[2:]:
+            continue
+        part()
+    most = resource.getrusage(resource.RUSAGE_SELF).ru_maxrss // 1024
+    same("the memory of all that, in megabytes", most < MEGABYTES or most, True)
+    print(f"{expecting.wrong} wrong")
+    return expecting.wrong != 0
+
+
+if __name__ == "__main__":
+    sys.exit(main())

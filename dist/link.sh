@@ -13,23 +13,31 @@ out=$(cd "$1" && pwd) parts=$(mktemp -d)
 trap 'rm -rf "$parts"' EXIT
 # one program of the kit is all of LLVM's tools, by the name that it is called by
 for tool in clang ld.lld llvm-ar llvm-objcopy; do ln -s "$KIT/toolchain/bin/clang" "$parts/$tool"; done
-names=$(sed -n 's/^[a-z].*[ *]\(wasmloop_[a-z_]*\)(.*;$/\1/p' "$capi/include/wasmloop.h")
+names=$(sed -n 's/^[a-z].*[ *]\(wasmloop_[a-z_]*\)(.*/\1/p' "$capi/include/wasmloop.h")
 version=$(sed -n 's/^#define WASMLOOP_VERSION "\(.*\)"$/\1/p' "$capi/include/wasmloop.h")
 
 cd "$parts"
 "$parts/llvm-ar" x "$archive"
 "$parts/llvm-ar" x "$KIT/c/liblibc_c.a"
-for part in wasmloop names; do
-    "$parts/clang" --target=x86_64-unknown-linux-gnu -std=c99 -Wall -Wextra -Werror -O2 -fPIC -fno-asynchronous-unwind-tables \
-        -nostdinc "-I$capi/include" -isystem "$capi/kit" -c -o "public_$part.o" "$capi/$part.c"
-done
-
-# one object, in which the header's names alone are global: so a host may have other libraries of Rattle's beside it
 echo "$names" > names
-"$parts/ld.lld" -r -o all.o ./*.o
-"$parts/llvm-objcopy" --keep-global-symbols=names --strip-unneeded all.o wasmloop.o
+
+# one object, in which the header's names alone are global: so a host may have other libraries of Rattle's beside it. Its words: the names' visibility
+made() {
+    for part in wasmloop names; do
+        "$parts/clang" --target=x86_64-unknown-linux-gnu -std=c99 -Wall -Wextra -Werror -O2 -fPIC -fno-asynchronous-unwind-tables "-fvisibility=$1" \
+            -nostdinc "-I$capi/include" -isystem "$capi/kit" -c -o "public_$part.o" "$capi/$part.c"
+    done
+    rm -f all.o wasmloop.o
+    "$parts/ld.lld" -r -o all.o ./*.o
+    "$parts/llvm-objcopy" --keep-global-symbols=names --strip-unneeded all.o wasmloop.o
+    rm all.o
+}
+
+# a shared object that this archive is linked into does not export the header's names: two of them in a process may have two versions
+made hidden
 rm -f "$out/libwasmloop.a"
 "$parts/llvm-ar" rcsD "$out/libwasmloop.a" wasmloop.o
+made default
 
 {
     echo 'WASMLOOP_0 { global:'

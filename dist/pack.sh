@@ -22,10 +22,10 @@ version=$(sed -n 's/^#define WASMLOOP_VERSION "\(.*\)"$/\1/p' "$top/capi/include
 cd "$room"
 
 name=wasmloop-$version-x86_64-linux
-# (the files name the prefix / in no place but the .pc file, which takes its own place there)
+# (the files name the prefix / in no place but the .pc files, which take their own place there)
 PREFIX=/usr/local DESTDIR="$room/whole" "$top/install.sh" > /dev/null
 mv whole/usr/local "$name"
-sed -i 's|^prefix=.*|prefix=${pcfiledir}/../..|; s|^libdir=.*|libdir=${prefix}/lib|' "$name/lib/pkgconfig/wasmloop.pc"
+sed -i 's|^prefix=.*|prefix=${pcfiledir}/../..|; s|^libdir=.*|libdir=${prefix}/lib|' "$name"/lib/pkgconfig/*.pc
 tar --sort=name --mtime="@$SOURCE_DATE_EPOCH" --owner=0 --group=0 --numeric-owner -c "$name" | gzip -9n > "$out/$name.tar.gz"
 
 multiarch=usr/lib/x86_64-linux-gnu

@@ -77,6 +77,11 @@ wheel() {
     is 'the wheel' $wanted env -u WASMLOOP_LIBRARY PYTHONPATH=site python3 -c \
         'import sys, wasmloop; print(wasmloop.Module(open(sys.argv[1], "rb").read()).work(0, b"abc").value)' "$guest"
     tools 'the wheel' "$room/site"
+    is 'the command of the wheel' "done $wanted bytes 4 352441c2" env -u WASMLOOP_LIBRARY PYTHONPATH=site site/bin/wasmloop work "$guest" 0 616263
+    for tool in profile bind replay; do
+        is "the tool $tool by the command of the wheel" "usage: wasmloop $tool" sh -c "env -u WASMLOOP_LIBRARY PYTHONPATH=site site/bin/wasmloop $tool --help | cut -d ' ' -f 1-3 | head -1"
+        is "the tool $tool in the help of the wheel" 1 sh -c "env -u WASMLOOP_LIBRARY PYTHONPATH=site site/bin/wasmloop help | grep -c '^wasmloop $tool '"
+    done
 }
 
 crate() {

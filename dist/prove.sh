@@ -4,8 +4,10 @@
 #
 # usage: dist/prove.sh [program|library]
 set -eu
-case ${1:-} in
-'' | program | library) ;;
+case $* in
+'') products='program library' crates='wasmloop wasmloop_c' ;;
+program) products=program crates=wasmloop ;;
+library) products=library crates=wasmloop_c ;;
 *)
     echo 'usage: dist/prove.sh [program|library]' >&2
     [ "$1" = --help ] && exit
@@ -26,12 +28,12 @@ done
 while read -r line; do
     [ ! -d "$folder/crates/${line%%[ :]*}/src" ] || echo "$line"
 done <"$top/crates.txt" >"$folder/crates.txt"
-if [ "${1:-program}" = program ]; then
-    python3 "$folder/build.py" wasmloop
-    "$top/dist/same.sh" program "$folder/crates/wasmloop/out/wasmloop"
-fi
-if [ "${1:-library}" = library ]; then
-    python3 "$folder/build.py" wasmloop_c
-    "$folder/dist/link.sh" "$folder/linked"
-    "$top/dist/same.sh" library "$folder/linked"
-fi
+# (it says on standard error how far it is, and how many minutes are left)
+python3 "$folder/build.py" $crates
+for product in $products; do
+    case $product in
+    program) made=$folder/crates/wasmloop/out/wasmloop ;;
+    library) made=$folder/linked && "$folder/dist/link.sh" "$made" ;;
+    esac
+    "$top/dist/same.sh" "$product" "$made"
+done

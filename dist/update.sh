@@ -1,14 +1,13 @@
 #!/bin/sh
 # Brings what is shipped up to date: proves and builds what has changed, and writes program and library, their sums, those of their sources,
-# the manual pages, and the statement of proof. With the outputs of runs of `rt ci` over these sources, the last one last, it takes what
-# that has proved and built.
+# the manual pages, and the statement of proof. With the outputs of runs of `rt ci` over these sources, the last one last, and of
+# `tools/wrong.py --promises`, it takes what that has proved and built.
 #
 # usage: dist/update.sh [LOG..]
 set -eu
 dist=$(cd "$(dirname "$0")" && pwd)
 if [ $# -eq 0 ]; then
-    python3 "$dist/../build.py" wasmloop
-    python3 "$dist/../build.py" wasmloop_c
+    python3 "$dist/../build.py" wasmloop wasmloop_c
 else
     python3 "$dist/../build.py" wasmloop_c --over-gate
 fi

@@ -152,7 +152,7 @@ static void turns_agree(struct pair *p, uint64_t fuel) {
     memset(&turned[0], 0xab, sizeof *turned);
     IS(wasmloop_turn(&p->once, 1000000, &turned[0]), WASMLOOP_OK);
     for (; !over; calls++) {
-        memset(&turned[1], below(2) ? 0 : 0xcd, sizeof *turned);
+        memset(&turned[1], calls % 2 ? 0 : 0xcd, sizeof *turned);
         IS(wasmloop_turn_for(&p->cut, 1000000, some_units(fuel) * (1 + calls / 20), &over, &turned[1]), WASMLOOP_OK);
         if (!over) IS(turned[1].wait, 0);
     }
@@ -307,7 +307,7 @@ int main(int argc, char **argv) {
         memcpy(codes[k], bytes, lengths[k]);
     }
     for (int k = 0; k < GUESTS; k++) loops_agree(codes[k], lengths[k], 1000000, 64);
-    for (unsigned long more = argc > 2 ? strtoul(argv[2], NULL, 10) : 5400; more; more--) one_loop();
+    for (unsigned long more = argc > 2 ? strtoul(argv[2], NULL, 10) : 5000; more; more--) one_loop();
     paused();
     turn_is_cut();
     zeroed(0);

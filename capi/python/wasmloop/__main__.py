@@ -5,6 +5,8 @@
     wasmloop work FILE ..           a command of the program
 """
 
+from __future__ import annotations
+
 import importlib
 import os
 import runpy
@@ -12,54 +14,60 @@ import shutil
 import subprocess
 import sys
 import textwrap
+from typing import List, Optional
 
 TOOLS = "cc", "lower", "lines", "record", "replay", "plugin_record", "log", "profile", "cover", "fuzz", "freeze", "ask", "bind"
 
 
-def program():
+def program() -> Optional[str]:
     """The program: that of the wheel, else the one on PATH that isn't this command; None if there is none."""
     mine = os.path.join(os.path.dirname(os.path.abspath(__file__)), "program")
     found = mine if os.path.isfile(mine) else shutil.which("wasmloop")
     return found if found and os.path.realpath(found) != os.path.realpath(sys.argv[0]) else None
 
 
-def listed(start="python3 -m wasmloop "):
+def listed(start: str = "python3 -m wasmloop ") -> None:
     """Prints a line or two for each tool."""
     for name in TOOLS:
-        doc = importlib.import_module(f"wasmloop.{name}").__doc__.split("\n\n")[0].replace("\n", " ")
+        doc = (importlib.import_module(f"wasmloop.{name}").__doc__ or "").split("\n\n")[0].replace("\n", " ")
         print(textwrap.fill(f"{start}{name:15}{doc}", 110, subsequent_indent=" " * (len(start) + 15)))
 
 
-def helped():
+def helped() -> None:
     """What the program says of itself, and the tools."""
-    if program():
-        subprocess.run([program(), "help"], check=False)
+    found = program()
+    if found:
+        subprocess.run([found, "help"], check=False)
         print("\nTools:")
     sys.stdout.flush()
     listed("wasmloop ")
 
 
-def command(words):
+def command(words: List[str]) -> int:
     """Runs a tool, or the program in place of this process."""
     if words[0] in TOOLS:
-        importlib.import_module("wasmloop._tool").START = "wasmloop "
+        setattr(importlib.import_module("wasmloop._tool"), "START", "wasmloop ")
         sys.argv[1:] = words[1:]
         runpy.run_module(f"wasmloop.{words[0]}", run_name="__main__")
         return 0
-    if not program():
+    found = program()
+    if not found:
         print(f"wasmloop: {words[0]} is no tool, and the program wasmloop is not there", file=sys.stderr)
         return 2
     sys.stdout.flush()
-    os.execv(program(), ["wasmloop", *words])
+    os.execv(found, ["wasmloop", *words])
 
 
-def main():
+def main() -> int:
     """`wasmloop`, as the wheel installs it."""
     words = sys.argv[1:]
     if words in ([], ["help"], ["--help"], ["-h"]):
-        return helped()
+        helped()
+        return 0
     return command([words[1], "--help"] if words[0] == "help" and words[1] in TOOLS else words)
 
 
 if __name__ == "__main__":
-    sys.exit(command(sys.argv[1:]) if sys.argv[1:] else listed())
+    if not sys.argv[1:]:
+        listed()
+    sys.exit(command(sys.argv[1:]) if sys.argv[1:] else 0)

@@ -46,7 +46,7 @@ def may_ask(data: bytes) -> bytes:
     for body in module.bodies:
         found = [op for _, op, _ in body.ops]
         for at in (it for it, op in enumerate(found) if op == wasm.CALL and found[it:it + len(ASSERT)] == ASSERT):
-            if module.names.get(callee(data, body.ops[at]), "").startswith("asyncify_"):
+            if module.names.get(callee(data, body.ops[at]) or 0, "").startswith("asyncify_"):
                 made[body.ops[at + ASSERT.index(UNREACHABLE)][0]] = NOP
     return bytes(made)
 
@@ -55,7 +55,7 @@ class Asyncified:
     """A module that Asyncify has changed. Its state is 1 while calls save their locals and return, 2 while they go on, else 0. Behind each call
     that may ask, a check compares it with 1."""
 
-    def __init__(self, data: bytes, pointers: bool):
+    def __init__(self, data: bytes, pointers: bool) -> None:
         self.data, self.pointers, self.module = data, pointers, wasm.Module(data)
         self.first = len(self.module.imported)
         exports = {name: at for name, _, at in self.module.exports}

@@ -19,7 +19,7 @@ _SAYS = {
 class Error(Exception):
     """A call failed. `status` is the library's number, such as NO_WORK."""
 
-    def __init__(self, status: int, text: Optional[str] = None):
+    def __init__(self, status: int, text: Optional[str] = None) -> None:
         super().__init__(text or _SAYS.get(status) or _name_of(_lib.wasmloop_status_text(status)) or f"status {status}")
         self.status = status
 
@@ -39,7 +39,7 @@ class OutOfRange(Error, ValueError):
 class Refused(Error):
     """The bytes were rejected: they are not a module that this host runs. The text says why, `fault` where."""
 
-    def __init__(self, fault: Fault, text: Optional[str]):
+    def __init__(self, fault: Fault, text: Optional[str]) -> None:
         super().__init__(REFUSED, text)
         self.fault = fault
 
@@ -55,7 +55,7 @@ class Stopped(Error):
     """A call did not return: it trapped, exceeded the call-depth limit or ran out of fuel. `ending` is "trap", "depth" or "spent", `trap` the
     trap's number or 0, `used` the fuel used, in units, and `line` the source line, if the module was given `debug`."""
 
-    def __init__(self, what: str, ended: _Ended, line: str = ""):
+    def __init__(self, what: str, ended: _Ended, line: str = "") -> None:
         self._what, self._ended, self.line = what, ended, line
         self.ending = _name_of(_lib.wasmloop_ending_name(c.c_uint32(ended.ending)))
         self.trap, self.used = ended.trap, ended.used
@@ -80,7 +80,7 @@ class Late(Stopped):
     """A call passed its deadline, and was given up. `ending` is "late", `used` the fuel used, in units, `where` the backtrace as text. Its instance lives
     on, with the memory and globals that a call with exactly that much fuel leaves."""
 
-    def __init__(self, what: str, ended: _Ended, line: str = "", where: str = ""):
+    def __init__(self, what: str, ended: _Ended, line: str = "", where: str = "") -> None:
         self.where = where
         super().__init__(what, ended, line)
         self.ending = "late"

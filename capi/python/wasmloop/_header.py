@@ -182,12 +182,13 @@ def function_of(structs: Dict[str, Struct], found: "re.Match[str]") -> Function:
 def read(name: str, text: str) -> Header:
     """What a header declares."""
     structs: Dict[str, Struct] = {}
-    functions, allocators = [], []
+    functions: List[Function] = []
+    allocators: List[str] = []
     for line, told in declarations(text):
         try:
             if found := STRUCT.fullmatch(told):
-                made = struct_of(found)
-                structs[made.name] = made
+                struct = struct_of(found)
+                structs[struct.name] = struct
             elif not (found := FUNCTION.fullmatch(told)):
                 raise ValueError("expected a function, or a struct of numbers")
             elif found[2] in RESERVED or found[2].startswith("_"):
@@ -236,11 +237,11 @@ def apart(names: Iterable[str], taken: Iterable[str], more: Tuple[str, ...] = ()
 
 def renamed(header: Header, taken: Taken, shown: Callable[[str], str] = str) -> Header:
     """The header in the names of a language; `shown` makes that of a type."""
-    structs = {}
-    for it, name in zip(header.structs.values(), apart(map(shown, header.structs), taken.types)):
-        fields = apart([field for _, field in it.fields], taken.words)
-        structs[it.name] = Struct(it.name, [(kind, field) for (kind, _), field in zip(it.fields, fields)], name)
-    functions = []
+    structs: Dict[str, Struct] = {}
+    for of, name in zip(header.structs.values(), apart(map(shown, header.structs), taken.types)):
+        fields = apart([field for _, field in of.fields], taken.words)
+        structs[of.name] = Struct(of.name, [(kind, field) for (kind, _), field in zip(of.fields, fields)], name)
+    functions: List[Function] = []
     for it, name in zip(header.functions, apart([it.name for it in header.functions], taken.words)):
         names = apart([arg.name for arg in it.args], taken.args, ("_size", "_room", "_raw"))
         functions.append(it._replace(args=[arg._replace(name=made) for arg, made in zip(it.args, names)], shown=name))

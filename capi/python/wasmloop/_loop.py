@@ -22,7 +22,7 @@ class Loop(_Inspected):
 
     _kind = "loop"
 
-    def __init__(self, module: Module, number: Optional[int] = None, fuel: int = 1_000_000, work_fuel: int = 1_000_000, depth: int = 64):
+    def __init__(self, module: Module, number: Optional[int] = None, fuel: int = 1_000_000, work_fuel: int = 1_000_000, depth: int = 64) -> None:
         super().__init__()
         self.number = next(_numbers) % 2**32 if number is None else number
         bounds = _fuel("fuel", fuel), _fuel("work_fuel", work_fuel), _whole("number", self.number, 0, 2**32 - 1), _depth(depth)

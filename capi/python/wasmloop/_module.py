@@ -33,7 +33,7 @@ class Module(_Held):
     _kind = "module"
     _source: Any = None
 
-    def __init__(self, data: Buffer, debug: Optional[Buffer] = None):
+    def __init__(self, data: Buffer, debug: Optional[Buffer] = None) -> None:
         super().__init__()
         fault, data, room, count = Fault(), _module_data(data), c.create_string_buffer(1024), c.c_uint64()
         status = _lib.wasmloop_load_told(data, c.c_size_t(len(data)), c.byref(self.handle), c.byref(fault), room, c.c_size_t(1024), c.byref(count))
@@ -150,7 +150,7 @@ class Instance(_Inspected):
 
     _kind = "instance"
 
-    def __init__(self, module: Module, fuel: int = 1_000_000, depth: int = 64):
+    def __init__(self, module: Module, fuel: int = 1_000_000, depth: int = 64) -> None:
         super().__init__()
         of, limits, ended = _held(Module, module), _call_limits(fuel, depth), _Ended()
         self.module, self.used, self._source = module, 0, module._source
@@ -231,7 +231,7 @@ class Instance(_Inspected):
 class Call:
     """A call that Instance.begin began, to be run in slices."""
 
-    def __init__(self, instance: Instance, name: str, ended: Optional[_Ended] = None):
+    def __init__(self, instance: Instance, name: str, ended: Optional[_Ended] = None) -> None:
         self._instance, self._name, self._ended = instance, name, ended
         self._over, self._room = c.c_uint32(), _Ended()
 

@@ -126,7 +126,7 @@ class Memory:
     """The memory of an instance, as bytes: memory[at:at + n], memory[at:at + n] = data, len(memory). That of a loop, or of a call that is paused,
     can only be read."""
 
-    def __init__(self, instance: _Inspected):
+    def __init__(self, instance: _Inspected) -> None:
         self._instance = instance
 
     def __len__(self) -> int:

@@ -4,10 +4,13 @@
 guest did not return.
 """
 
+from __future__ import annotations
+
 import argparse
 import os
 import sys
 import warnings
+from typing import Callable, Optional, Tuple, Union
 
 from . import Error, InertImports, Module, OutOfRange, Refused, wasm
 from ._abi import _lib, _name_of
@@ -18,7 +21,7 @@ STATUSES = "Status: 0 success; 1 a file or a program is missing; 2 usage error; 
 class Failed(Exception):
     """Ends a tool with this message and status."""
 
-    def __init__(self, why, status=1):
+    def __init__(self, why: str, status: int = 1) -> None:
         super().__init__(why)
         self.status = status
 
@@ -26,22 +29,22 @@ class Failed(Exception):
 START = "python3 -m wasmloop."                          # what a usage line begins with; the command `wasmloop` sets its own
 
 
-def words(tool, doc, more=""):
+def words(tool: str, doc: Optional[str], more: str = "") -> argparse.ArgumentParser:
     """A parser whose help is the docstring of the module."""
-    return argparse.ArgumentParser(prog=f"{START}{tool}", description=doc.strip(), epilog=STATUSES + more,
+    return argparse.ArgumentParser(prog=f"{START}{tool}", description=(doc or "").strip(), epilog=STATUSES + more,
                                    formatter_class=argparse.RawDescriptionHelpFormatter)
 
 
-def whole(least):
+def whole(least: int) -> Callable[[str], int]:
     """The type of an argument that is a whole number, `least` or more."""
-    def number(word):
+    def number(word: str) -> int:
         if int(word) < least:
             raise argparse.ArgumentTypeError(f"expected {least} or more, found {word}")
         return int(word)
     return number
 
 
-def read(file):
+def read(file: str) -> bytes:
     """The bytes of a file; - is standard input."""
     if file == "-":
         return sys.stdin.buffer.read()
@@ -49,7 +52,7 @@ def read(file):
         return it.read()
 
 
-def write(file, data):
+def write(file: str, data: Union[str, bytes]) -> None:
     """Writes text or bytes to a file; - is standard output."""
     data = data.encode() if isinstance(data, str) else data
     if file == "-":
@@ -60,7 +63,7 @@ def write(file, data):
         it.write(data)
 
 
-def load(data, file):
+def load(data: bytes, file: str) -> Tuple[Module, wasm.Module]:
     """The module as the library loads it, and as wasm.py reads it."""
     try:
         return Module(data), wasm.Module(data)
@@ -68,20 +71,20 @@ def load(data, file):
         raise Failed(f"{file}: {why}", 3) from None
 
 
-def ended(who, ending, trap, used, where, depth):
+def ended(who: object, ending: Optional[str], trap: int, used: int, where: Optional[str], depth: int) -> str:
     """The sentence on a run that did not return, as the program prints it."""
     name = _name_of(_lib.wasmloop_trap_name(trap))
-    why = {"trap": f"trapped: {name} ({trap})", "depth": f"exceeded the call-depth limit of {depth}", "spent": "ran out of fuel"}.get(ending, ending)
+    why = {"trap": f"trapped: {name} ({trap})", "depth": f"exceeded the call-depth limit of {depth}", "spent": "ran out of fuel"}.get(ending or "", ending)
     return f"{who} {why}, after {used} unit{'' if used == 1 else 's'}, {where}"
 
 
-def near(file):
+def near(file: str) -> str:
     """A path relative to the current folder, if it lies near."""
     short = os.path.relpath(file)
     return file if short.startswith("../..") else short
 
 
-def run(tool, main):
+def run(tool: str, main: Callable[[], int]) -> None:
     """Ends the process with the status that `main` returns, or with that of the exception it raises."""
     warnings.simplefilter("ignore", InertImports)       # a tool itself reports what a guest calls
     try:

@@ -40,7 +40,7 @@ class Plugin:
     """An instance whose functions may ask. `answer` is given the bytes of each question and returns those of the answer, or None if there is
     none; it may await. While a question waits, nothing of the guest runs, and `instance` may be called for functions that do not ask."""
 
-    def __init__(self, module: Module, answer: Answer, fuel: int = 1_000_000, depth: int = 64):
+    def __init__(self, module: Module, answer: Answer, fuel: int = 1_000_000, depth: int = 64) -> None:
         self.instance, self.answer, self.used, self._state = module.instance(fuel, depth), answer, 0, ""
         try:
             self._asks = [module.function(it) for it in ASKS] == list(ASKS.values())

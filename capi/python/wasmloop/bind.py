@@ -42,7 +42,7 @@ _Kind = TypeVar("_Kind")
 class Failed(Error):
     """A function returned an error: a number below 0, `code`."""
 
-    def __init__(self, name: str, code: int):
+    def __init__(self, name: str, code: int) -> None:
         super().__init__(0, f"{name} returned {code}")
         self.code = code
 
@@ -108,7 +108,7 @@ class _Typed:
     TYPES: Dict[str, Tuple[List[int], List[int]]] = {}
     ALLOCATOR = ""
 
-    def __init__(self, module: Module, instance: Instance, fuel: int, depth: int, deadline: Optional[float] = None):
+    def __init__(self, module: Module, instance: Instance, fuel: int, depth: int, deadline: Optional[float] = None) -> None:
         for name, types in self.TYPES.items():
             if module.function(name) != types:
                 raise Error(ARGUMENTS, f"{name}: expected {types[0]} to {types[1]}, found {module.function(name)[0]} to {module.function(name)[1]}")
@@ -181,7 +181,7 @@ class _Typed:
 class Plugin(_Typed):
     """An instance with typed calls. `fuel`, `depth` and `deadline`, in milliseconds, are each call's limits, as Instance.call has them."""
 
-    def __init__(self, module: Module, fuel: int = 10_000_000, depth: int = 64, deadline: Optional[float] = None):
+    def __init__(self, module: Module, fuel: int = 10_000_000, depth: int = 64, deadline: Optional[float] = None) -> None:
         super().__init__(module, module.instance(fuel, depth), fuel, depth, deadline)
 
     def _call(self, name: str, *args: Any) -> Tuple[Any, bytes]:
@@ -199,7 +199,7 @@ class Plugin(_Typed):
 class Asking(_Typed):
     """An instance with typed calls that may ask: each is awaited, and `answer` answers its questions, as ask.Plugin's does."""
 
-    def __init__(self, module: Module, answer: ask.Answer, fuel: int = 10_000_000, depth: int = 64):
+    def __init__(self, module: Module, answer: ask.Answer, fuel: int = 10_000_000, depth: int = 64) -> None:
         self.plugin = ask.Plugin(module, answer, fuel, depth)
         super().__init__(module, self.plugin.instance, fuel, depth)
 

@@ -4,7 +4,11 @@ A host cannot read a loop's memory, but a callback can emit 64 numbers, even one
 which emits its counters at the end of the callback, or where that stops, and again for each further 64.
 """
 
-from . import NOT_RUN, RAN, _tool, replay, tree, wasm
+from __future__ import annotations
+
+from typing import Dict, Iterator, List, Optional, Tuple
+
+from . import NOT_RUN, RAN, Did, Site, _tool, replay, tree, wasm
 from .emitting import with_emit
 from .runs import Ran, room_for
 from .tree import NODE, Node, TreeWriter
@@ -75,57 +79,58 @@ end"""
 class LoopWriter(TreeWriter):
     """Writes the guest that counts in one callback, the `target`th that runs, and emits its counters from the `first` on; or its memory."""
 
-    def __init__(self, module, most, work_fuel, target, first, memory=False):
+    def __init__(self, module: wasm.Module, most: int, work_fuel: int, target: int, first: int, memory: bool = False) -> None:
         module = with_emit(module)
         super().__init__(module, most)
         self.work_fuel, self.target, self.first, self.import_, self.memory = work_fuel, target, first, module.imported.index("emit"), memory
 
-    def values(self):
+    def values(self) -> Dict[str, int]:
         return {**super().values(), "on": 0, "target": self.target, "first": self.first}
 
-    def request(self, name):
+    def request(self, name: str) -> Optional[int]:
         if name != "emit":
             return None
         return self.function("emit", [I64], [I32], [], self.assembled(EMIT, ["value"], IMPORT=self.import_))
 
-    def dump(self):
+    def dump(self) -> int:
         if self.memory:
             return self.added_function("dump", MEMORY, [], [], ("at", I32), LAST=self.words - 8, IMPORT=self.import_)
         return self.added_function("dump", DUMP, [], [], ("at", I32), ("count", I32), ROWS=len(self.rows), IMPORT=self.import_)
 
-    def over(self):
+    def over(self) -> str:
         return f"call {self.dump()}"
 
-    def elsewhere(self):
+    def elsewhere(self) -> str:
         return BURN.replace("ALLOWED", str(self.work_fuel))
 
-    def wrapped(self, function):
+    def wrapped(self, function: int) -> int:
         """The function that the host calls in place of this one."""
         names = [f"p{it}" for it in range(len(self.module.types[self.type_of(function)][0]))]
         words = WRAP.replace("PARAMS", " ".join(f"get {it}" for it in names))
         return self.added_function(f"wrap {function}", words, names, [], WRAPPED=function, DUMP=self.dump())
 
-    def type_of(self, function):
-        imports = [about for _, _, kind, about in self.module.imports if kind == 0]
+    def type_of(self, function: int) -> int:
+        imports = [about for _, _, kind, about in self.module.imports if isinstance(about, int)]
         return imports[function] if function < len(imports) else self.module.functions[function - len(imports)]
 
-    def work(self, function):
+    def work(self, function: int) -> int:
         return self.added_function("work", WORK, ["op"], [I32], WRAPPED=function)
 
-    def exports(self):
+    def exports(self) -> List[bytes]:
         called = {"uv_main": self.wrapped, "uv_after_work": self.wrapped, "uv_work": self.work}
         rows = zip(self.module.export_bytes(), self.module.exports)
         return [text(name) + b"\0" + u(called[name](index)) if name in called else row for row, (name, _, index) in rows]
 
-    def elements(self):
+    def elements(self) -> Iterator[bytes]:
         """The element section, with wrapped callbacks."""
         for head, functions in self.module.elements():
             callbacks = [self.module.types[self.type_of(it)] == CALLBACK for it in functions]
             yield head + vec([u(self.wrapped(it) if is_callback else it) for it, is_callback in zip(functions, callbacks)])
 
-    def sections(self):
+    def sections(self) -> Dict[int, bytes]:
         """The sections that the tables of functions need, beside those of `written`."""
-        places, found = self.module.places, {}
+        places = self.module.places
+        found: Dict[int, bytes] = {}
         if ELEMENT in places:
             found[ELEMENT] = vec(list(self.elements()))
         if START in places:
@@ -136,26 +141,26 @@ class LoopWriter(TreeWriter):
 class Working(replay.Replay):
     """A replay that keeps the outcome of each request's work."""
 
-    def __init__(self, rows):
+    def __init__(self, rows: replay.Rows) -> None:
         super().__init__(rows)
-        self.work = []
+        self.work: List[Tuple[int, int, int]] = []
 
-    def _accept(self, request, *more):
+    def _accept(self, request: int, was: int, memory: Optional[int] = None) -> None:
         about = self.jobs[request].about()
         if about.outcome == NOT_RUN:
             about = self.jobs[request].run().about()
         self.work.append((request, about.outcome, about.value))
-        super()._accept(request, *more)
+        super()._accept(request, was, memory)
 
 
 class Watched(Working):
     """A replay that keeps what each callback did, with its backtrace if it stopped."""
 
-    def __init__(self, rows):
+    def __init__(self, rows: replay.Rows) -> None:
         super().__init__(rows)
-        self.ran = []
+        self.ran: List[Tuple[Did, List[Site], str]] = []
 
-    def _one_step(self):
+    def _one_step(self) -> Did:
         did = super()._one_step()
         if did.what == RAN:
             self.ran.append((did, self.loop.stop() if did.ending else [], self.told))
@@ -169,12 +174,13 @@ class Reached(Exception):
 class Counting(Working):
     """A replay up to a callback of the counted guest."""
 
-    def __init__(self, rows, code, target):
+    def __init__(self, rows: replay.Rows, code: bytes, target: int) -> None:
         depth = min(rows[0][5] + 3, 128)
         super().__init__([["loop", "", code.hex(), room_for(rows[0][3]), SLOWER * rows[0][4] + 1000, depth], *rows[1:]])
-        self.target, self.values = target, []
+        self.target = target
+        self.values: List[int] = []
 
-    def _one_step(self):
+    def _one_step(self) -> Did:
         did = super()._one_step()
         if did.what == RAN:
             self.target -= 1
@@ -187,31 +193,30 @@ class Counting(Working):
 class Callback:
     """A callback of a record: the given one, counted from 1, else the one that failed, else the one that used most."""
 
-    can_be_sampled = False
     most_nodes = tree.MOST_NODES,
-    kept_calls = None
+    kept_calls: Optional[int] = None
 
-    def __init__(self, rows, given=None):
+    def __init__(self, rows: replay.Rows, given: Optional[int] = None) -> None:
         watched = Watched(rows)
         while watched.next():
             pass
         self.rows, self.data, self.work = rows, watched.code, watched.work
         failed = len(watched.ran) if watched.failed else max(range(1, len(watched.ran) + 1), key=lambda it: watched.ran[it - 1][0].used, default=0)
-        self.number = {None: failed, LAST: len(watched.ran)}.get(given, given)
+        self.number = failed if given is None else len(watched.ran) if given == LAST else given
         if not 1 <= self.number <= len(watched.ran):
             raise _tool.Failed(f"the record has {len(watched.ran)} callbacks, expected one of them", 2)
         self.did, self.sites, self.told = watched.ran[self.number - 1]
 
-    def __str__(self):
+    def __str__(self) -> str:
         return f"callback {self.number}, {replay.KINDS[self.did.kind]} {self.did.number}"
 
-    def run(self):
+    def run(self) -> Ran:
         return Ran(ENDINGS[self.did.ending], None, b"", self.did.used, self.told or None)
 
-    def backtrace(self):
+    def backtrace(self) -> List[Site]:
         return self.sites
 
-    def values(self, most, first, memory=False):
+    def values(self, most: int, first: int, memory: bool = False) -> List[int]:
         """What a replay emits from the counter or the address `first` on: up to 64 numbers."""
         code = LoopWriter(wasm.Module(self.data), most, self.rows[0][4], self.number, first, memory).written()
         if len(code) > MOST_BYTES:
@@ -227,7 +232,7 @@ class Callback:
             return again.values
         raise _tool.Failed("with counters the callback does not run")
 
-    def read(self, at, count):
+    def read(self, at: int, count: int) -> bytes:
         """Bytes of the loop's memory after the callback; where it stopped, at the beginning of the block that it stopped in."""
         _, cut = tree.stop_of(wasm.Module(self.data), self, self.run())
         most, found = self.did.used + sum(map(len, cut)) if cut else 0, b""
@@ -238,13 +243,13 @@ class Callback:
             found += b"".join((it % 2**64).to_bytes(8, "little") for it in values)
         return found[:count]
 
-    def treed(self, most, _most_nodes, _used):
+    def treed(self, most: int, _most_nodes: int, _used: int) -> Tuple[Ran, List[int], List[Node]]:
         """How the callback ended with counters, the counts of its blocks, and its nodes."""
         writer = LoopWriter(wasm.Module(self.data), most, self.rows[0][4], self.number, 0)
-        counts, nodes, first, values = [0] * len(writer.rows), [], 0, [0] * MOST_EMITS
+        counts, first, values = [0] * len(writer.rows), 0, [0] * MOST_EMITS
+        nodes: List[Node] = []
         while len(values) == MOST_EMITS:
-            values = iter(self.values(most, first))
-            values, taken = list(values), 0
+            values, taken = self.values(most, first), 0
             while taken < len(values):
                 index, low = divmod(values[taken] % 2**64, 1 << 32)
                 if index < len(counts):

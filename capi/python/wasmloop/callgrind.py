@@ -1,13 +1,20 @@
 """A profile in callgrind's format, for callgrind_annotate and kcachegrind: units by function and line, and calls with what they cost."""
 
+from __future__ import annotations
+
 import collections
+from typing import TYPE_CHECKING, DefaultDict, Dict, List, Tuple
+
+if TYPE_CHECKING:
+    from .profile import Profile
 
 UNKNOWN = "???"
 
 
-def calls_of(profile):
+def calls_of(profile: Profile) -> Dict[Tuple[int, str, int, int], List[int]]:
     """For each caller, with the file and line of the call, and each function that it calls: how often, and the units within."""
-    nodes, found = profile.nodes, collections.defaultdict(lambda: [0, 0])
+    nodes = profile.nodes
+    found: DefaultDict[Tuple[int, str, int, int], List[int]] = collections.defaultdict(lambda: [0, 0])
     within = [it.units for it in nodes]
     for k in range(len(nodes) - 1, 0, -1):
         within[nodes[k].parent] += within[k]
@@ -20,10 +27,11 @@ def calls_of(profile):
     return found
 
 
-def written(profile, guest):
+def written(profile: Profile, guest: str) -> str:
     """The text of the file."""
     out = ["# callgrind format", "version: 1", f"cmd: {guest}", "positions: line", "events: Units", f"summary: {profile.ran.used}"]
-    own, calls = collections.defaultdict(list), collections.defaultdict(list)
+    own: DefaultDict[int, List[Tuple[str, int, int]]] = collections.defaultdict(list)
+    calls: DefaultDict[int, List[Tuple[str, int, int, int, int]]] = collections.defaultdict(list)
     for (function, file, line), units in sorted((profile.lines or {(it, "", 0): n for it, n in profile.functions.items()}).items()):
         own[function].append((file, line, units))
     for (function, file, line, callee), (count, units) in sorted(calls_of(profile).items()):

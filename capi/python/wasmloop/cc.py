@@ -16,12 +16,16 @@ A crate in Rust is built by cargo, and then rewritten:
     python3 -m wasmloop.lower target/wasm32-unknown-unknown/release/NAME.wasm NAME.wasm
 """
 
+from __future__ import annotations
+
 import os
 import subprocess
 import sys
 import tempfile
+from typing import List, Sequence
 
 from . import _tool, explain, lower, wasm
+from .lowering.binary import Refused
 
 HERE = os.path.dirname(os.path.abspath(__file__))
 KIT = "guest.c", "wasi.c", "nofiles.c"                  # of the guest SDK, linked with --libc
@@ -33,19 +37,19 @@ LINK = "--no-entry", "--export-table", "--stack-first"
 CONSTRUCTORS = "void __wasm_call_ctors(void);\n__attribute__((export_name(\"_initialize\"))) void _initialize(void) { __wasm_call_ctors(); }\n"
 
 
-def guest_folder():
+def guest_folder() -> str:
     """The folder of uv.h and mem.c: of an installed package, or of a checkout."""
     checkout = os.path.normpath(os.path.join(HERE, "../../../examples"))
     return next(it for it in (os.path.join(HERE, "guest"), checkout) if os.path.isfile(os.path.join(it, "uv.h")))
 
 
-def kit_folder():
+def kit_folder() -> str:
     """The folder of guest.h: `kit` in a checkout."""
     folder = guest_folder()
     return folder if os.path.isfile(os.path.join(folder, "guest.h")) else os.path.join(folder, "kit")
 
 
-def run(*command):
+def run(*command: str) -> str:
     try:
         done = subprocess.run(command, stdout=subprocess.PIPE, check=False)
     except FileNotFoundError:
@@ -58,17 +62,18 @@ def run(*command):
 class Build:
     """One guest in a folder of its own: compiler, target and libraries follow from the options."""
 
-    def __init__(self, libc, jumps, stack, flags, folder):
+    def __init__(self, libc: bool, jumps: bool, stack: int, flags: Sequence[str], folder: str) -> None:
         self.clang, self.linker = os.environ.get("CC", "clang"), os.environ.get("LD", "wasm-ld")
-        self.target, self.stack, self.flags, self.folder, self.objects = "wasm32-wasi" if libc else "wasm32", stack, flags, folder, []
+        self.target, self.stack, self.flags, self.folder = "wasm32-wasi" if libc else "wasm32", stack, flags, folder
+        self.objects: List[str] = []
         self.libc, self.jumps = libc, jumps
 
-    def compile(self, source, *more):
+    def compile(self, source: str, *more: str) -> None:
         made = os.path.join(self.folder, f"{len(self.objects)}.o")
         run(self.clang, f"--target={self.target}", *FLAGS, *more, "-I", guest_folder(), "-I", kit_folder(), "-c", "-o", made, source)
         self.objects.append(made)
 
-    def sources(self, sources):
+    def sources(self, sources: Sequence[str]) -> None:
         own = [f"-D_WASI_EMULATED_{it.upper().replace('-', '_')}" for it in EMULATED] if self.libc else ["-ffreestanding"]
         own += ["-mllvm", "-enable-emscripten-sjlj", "-isystem", kit_folder()] if self.jumps else []
         for source in sources:
@@ -82,7 +87,7 @@ class Build:
             _tool.write(start, CONSTRUCTORS)
             self.compile(start)
 
-    def libraries(self, cpp):
+    def libraries(self, cpp: bool) -> List[str]:
         if not self.libc:
             return []
         runtime = run(self.clang, f"--target={self.target}", "-print-libgcc-file-name")
@@ -93,14 +98,14 @@ class Build:
                 raise _tool.Failed(f"{file} is missing (Debian: apt install wasi-libc libclang-rt-14-dev-wasm32, for C++ libc++-14-dev-wasm32)")
         return [*found, runtime]
 
-    def link(self, cpp, *more):
+    def link(self, cpp: bool, *more: str) -> bytes:
         made = os.path.join(self.folder, "linked.wasm")
         more = (*more, "--import-undefined") if self.jumps else more
         run(self.linker, *LINK, *more, "-z", f"stack-size={self.stack}", "-o", made, *self.objects, *self.libraries(cpp))
         return _tool.read(made)
 
 
-def with_start(data):
+def with_start(data: bytes) -> bytes:
     """The module with `_initialize`, which calls static constructors, as its start function."""
     module = wasm.Module(data)
     found = next((index for name, _, index in module.exports if name == "_initialize"), None)
@@ -110,22 +115,23 @@ def with_start(data):
     return module.written({wasm.START: wasm.u(found), wasm.EXPORT: wasm.vec(kept)})
 
 
-def accepted(data):
+def accepted(data: bytes) -> bytes:
     """The module as the host accepts it, rewritten if need be. Raises Failed if it cannot be."""
     if explain(data) is None:
         return data
     try:
         data, lowering = lower.lower(data, _tool.read(lower.SOFT))
-    except lower.Refused as why:
+    except Refused as why:
         raise _tool.Failed(f"the module cannot be rewritten: {why}", 3) from None
     for line in lowering.told():
         print(f"  {line}")
-    if explain(data):
-        raise _tool.Failed(explain(data), 3)
+    why_not = explain(data)
+    if why_not:
+        raise _tool.Failed(why_not, 3)
     return data
 
 
-def main():
+def main() -> int:
     parser = _tool.words("cc", __doc__)
     parser.add_argument("sources", metavar="SOURCE", nargs="+", help="files of C or C++")
     parser.add_argument("-o", dest="out", metavar="OUT", help="the module; default: the first source with .wasm in place of its suffix")
@@ -133,7 +139,8 @@ def main():
     parser.add_argument("--libc", action="store_true", help="link wasi-libc and the guest SDK")
     parser.add_argument("--setjmp", action="store_true", help="compile setjmp and longjmp; with --libc")
     parser.add_argument("--stack", metavar="BYTES", type=_tool.whole(16), help="the size of the stack (16384; with --libc 65536)")
-    mine, flags = sys.argv[1:], []
+    mine = sys.argv[1:]
+    flags: List[str] = []
     if "--" in mine:
         mine, flags = mine[:mine.index("--")], mine[mine.index("--") + 1:]
     given = parser.parse_args(mine)

@@ -6,9 +6,11 @@ memory a host can read. Two things differ from the original: an access between t
 guest cannot grow to all 64 pages.
 """
 
-from typing import NamedTuple
+from __future__ import annotations
 
-from . import Module as Host, _tool, wasm
+from typing import Dict, Generic, Iterable, Iterator, List, NamedTuple, Optional, Sequence, Tuple, TypeVar
+
+from . import Instance, Module as Host, _tool, wasm
 from .wasm import (BR_IF, CALL, CALL_INDIRECT, ELSE, END, FREE, GLOBAL, I32, IF, LOOP, MEMORY_GROW, MEMORY_SIZE, MOST_BYTES, MOST_PAGES, PAGE, constant,
                    i32, i64, sized, u, vec)
 
@@ -26,20 +28,20 @@ class Row(NamedTuple):
     end: int
     cost: int
 
-    def began(self, ops):
+    def began(self, ops: Sequence[wasm.Operation]) -> int:
         """The first of the instructions that it costs: the `loop` right before its own is one of them."""
         return self.first - 1 if self.first and ops[self.first - 1][1] == LOOP else self.first
 
 
-def get(local):
+def get(local: int) -> bytes:
     return b"\x20" + u(local)
 
 
-def put(local):
+def put(local: int) -> bytes:
     return b"\x21" + u(local)
 
 
-def blocks(function, body):
+def blocks(function: int, body: wasm.Body) -> List[Row]:
     """The basic blocks of a function. The instruction `loop` belongs to the block that follows it: a branch to the loop costs it again."""
     found, first, cost, depth = [], 0, 0, 0
     for at, (_, op, _) in enumerate(body.ops):
@@ -57,14 +59,14 @@ def blocks(function, body):
     return found
 
 
-def copy(to, source, count, at):
+def copy(to: bytes, source: bytes, count: bytes, at: int) -> bytes:
     """A loop that copies bytes, with the local `at` as its index."""
     return (i32(0) + put(at) + b"\x02\x40\x03\x40" + get(at) + count + AT_LEAST + b"\x0d\1"
             + to + get(at) + ADD + source + get(at) + ADD + LOAD_BYTE + STORE_BYTE
             + get(at) + i32(1) + ADD + put(at) + b"\x0c\0\x0b\x0b")
 
 
-def is_past(a, b, most):
+def is_past(a: bytes, b: bytes, most: bytes) -> bytes:
     """Whether a + b, without wrapping, exceeds the i64 `most`."""
     return a + WIDEN + b + WIDEN + ADD_LONG + most + ABOVE_LONG
 
@@ -75,10 +77,10 @@ class Writer:
 
     NONE, CALLS, INLINE = range(3)
 
-    def __init__(self, module, counters):
+    def __init__(self, module: wasm.Module, counters: int) -> None:
         self.module, self.kind = module, counters
         self.rows = [row for number, body in enumerate(module.bodies) for row in blocks(number, body)]
-        self.by_function = [{} for _ in module.bodies]
+        self.by_function: List[Dict[int, int]] = [{} for _ in module.bodies]
         for place, row in enumerate(self.rows):
             self.by_function[row.function][row.first] = place
         room = -(-(4 * len(self.rows) + WORDS + 2 * MOST_REQUEST + self.more_room()) // PAGE)
@@ -92,27 +94,29 @@ class Writer:
         self.bytes_out = self.bytes_in + MOST_REQUEST
         self.counters = self.bytes_out + MOST_REQUEST
         self.pages = b"\x23" + u(len(module.globals()))     # global.get of the guest's own number of pages
-        self.types, self.added, self.functions = list(module.types), {}, []
+        self.types = list(module.types)
+        self.added: Dict[str, int] = {}
+        self.functions: List[Tuple[int, bytes]] = []
 
-    def pages_for(self, least, room):
+    def pages_for(self, least: int, room: int) -> int:
         """The size of the memory in pages, for so many of the guest and of the counters."""
         return MOST_PAGES
 
-    def more_room(self):
+    def more_room(self) -> int:
         """How many more bytes of memory are needed, above the counters."""
         return 0
 
-    def more_globals(self):
+    def more_globals(self) -> List[bytes]:
         return []
 
-    def exports(self):
+    def exports(self) -> List[bytes]:
         return self.module.export_bytes()
 
-    def sections(self):
+    def sections(self) -> Dict[int, bytes]:
         """Further sections that are replaced."""
         return {}
 
-    def function(self, name, params, results, more, code):
+    def function(self, name: str, params: Sequence[int], results: Sequence[int], more: Sequence[int], code: bytes) -> int:
         """The index of an added function, one for each name."""
         if name not in self.added:
             kind = bytes(params), bytes(results)
@@ -122,16 +126,16 @@ class Writer:
             self.functions.append((self.types.index(kind), sized(vec([u(1) + bytes([it]) for it in more]) + code + b"\x0b")))
         return self.added[name]
 
-    def grow(self):
+    def grow(self) -> int:
         to = b"\x24" + self.pages[1:]
         code = is_past(self.pages, get(0), i64(self.limit)) + IF_SO + i32(-1) + ANSWER + self.pages + self.pages + get(0) + ADD + to
         return self.function("grow", [I32], [I32], [], code)
 
-    def request(self, name):
+    def request(self, name: str) -> Optional[int]:
         """The function in place of an import of uv_work, or None: every other import returns -1, as in uv_work."""
         length, end = i32(self.words) + LOAD, self.pages + WIDEN + i64(PAGE) + TIMES_LONG
 
-        def refuse(answer):
+        def refuse(answer: int) -> bytes:
             return IF_SO + i32(answer) + ANSWER
 
         if name == "in_len":
@@ -146,22 +150,22 @@ class Writer:
             return self.function(name, [I32] * 2, [I32], [I32], code)
         return None
 
-    def counter(self, place):
+    def counter(self, place: int) -> bytes:
         at = i32(self.counters + 4 * place)
         if self.kind == self.CALLS:
             return at + b"\x10" + u(self.function("count", [I32], [], [], get(0) + get(0) + LOAD + i32(1) + ADD + STORE))
         return at + at + LOAD + i32(1) + ADD + STORE
 
-    def head(self, number, body):
+    def head(self, number: int, body: wasm.Body) -> bytes:
         """The locals of a function, and what runs first in it."""
         return body.data[body.start:body.code]
 
-    def call(self, place, callee, piece):
+    def call(self, place: int, callee: Optional[int], piece: bytes) -> bytes:
         """A call; of an import, of the function in its place. `callee` is None for one through the table."""
         other = self.request(self.module.imported[callee]) if callee is not None and callee < len(self.module.imported) else None
         return piece if other is None else b"\x10" + u(other)
 
-    def piece(self, place, start, op, end):
+    def piece(self, place: int, start: int, op: int, end: int) -> bytes:
         """The instruction as it is written."""
         data = self.module.data
         if op in (CALL, CALL_INDIRECT):
@@ -170,7 +174,7 @@ class Writer:
             return self.pages
         return b"\x10" + u(self.grow()) if op == MEMORY_GROW else data[start:end]
 
-    def body(self, number, body):
+    def body(self, number: int, body: wasm.Body) -> bytes:
         starts = self.by_function[number] if self.kind else {}
         out = [self.head(number, body)]
         for place, (start, op, end) in enumerate(body.ops):
@@ -181,7 +185,7 @@ class Writer:
             out.append(self.counter(starts[len(body.ops)]))
         return sized(b"".join(out))
 
-    def written(self):
+    def written(self) -> bytes:
         m = self.module
         bodies, exports, more = [self.body(number, body) for number, body in enumerate(m.bodies)], vec(self.exports()), self.sections()
         globals_ = [bytes([kind, mutable]) + constant(kind, value) for kind, mutable, value in m.globals()]
@@ -196,7 +200,11 @@ class Writer:
         return m.written({**replaced, **more}, dropped=(0,))
 
 
-def fitting(writers, what, most=MOST_BYTES):
+AWriter = TypeVar("AWriter", bound=Writer)
+Found = TypeVar("Found")
+
+
+def fitting(writers: Iterable[AWriter], what: str, most: int = MOST_BYTES) -> Tuple[AWriter, Host]:
     """The first of the writers whose module has at most so many bytes, and that module, loaded."""
     for writer in writers:
         code = writer.written()
@@ -205,40 +213,54 @@ def fitting(writers, what, most=MOST_BYTES):
     raise _tool.Failed(f"with {what} the module has {len(code):,} bytes, more than {most:,}")
 
 
-class Counted:
-    """A guest with counters, loaded. `fresh` returns an instance whose request has these bytes."""
+class Counting(Generic[Found]):
+    """A guest with counters, loaded, from which so much is found. `fresh` returns an instance whose request has these bytes."""
 
-    def __init__(self, data, kinds=(Writer.INLINE, Writer.CALLS)):
-        module = wasm.Module(data)
-        self.writer, self.host = fitting((Writer(module, kind) for kind in kinds), "counters")
-        self.rows = self.writer.rows
+    writer: Writer
+    host: Host
+    rows: List[Row]
 
-    def begin(self, instance, with_start):
+    def read(self, instance: Instance, before: Optional[Found] = None) -> Found:
+        """What has run, since `before` was read."""
+        raise NotImplementedError
+
+    def begin(self, instance: Instance, with_start: bool) -> None:
         """Called before the call that is measured, with the start function or without."""
 
-    def fresh(self, given, depth):
+    def fresh(self, given: bytes, depth: int) -> Instance:
         at, it = self.writer, self.host.instance(fuel=ENOUGH, depth=depth)
         it.memory[at.bytes_in:at.bytes_in + len(given)] = given
         it.memory[at.words:at.words + 4] = len(given).to_bytes(4, "little")
         return it
 
-    def reply(self, instance):
+    def reply(self, instance: Instance) -> bytes:
         at = self.writer
         size = int.from_bytes(instance.memory[at.words + 4:at.words + 8], "little")
         return instance.memory[at.bytes_out:at.bytes_out + size]
 
-    def read(self, instance, before=None):
-        """How often each row has run, since `before` was read."""
-        now = self.counts(instance)
-        return [after - first for after, first in zip(now, before)] if before else now
-
-    def counts(self, instance):
+    def counts(self, instance: Instance) -> List[int]:
         """How often each row has run so far."""
         at = self.writer.counters
         return memoryview(instance.memory[at:at + 4 * len(self.rows)]).cast("I").tolist()
 
+    def counts_since(self, instance: Instance, before: Optional[List[int]]) -> List[int]:
+        now = self.counts(instance)
+        return [after - first for after, first in zip(now, before)] if before else now
 
-def by_operation(module, rows, counts):
+
+class Counted(Counting[List[int]]):
+    """One with counters of blocks: how often each row has run."""
+
+    def __init__(self, data: bytes, kinds: Sequence[int] = (Writer.INLINE, Writer.CALLS)) -> None:
+        module = wasm.Module(data)
+        self.writer, self.host = fitting((Writer(module, kind) for kind in kinds), "counters")
+        self.rows = self.writer.rows
+
+    def read(self, instance: Instance, before: Optional[List[int]] = None) -> List[int]:
+        return self.counts_since(instance, before)
+
+
+def by_operation(module: wasm.Module, rows: Iterable[Row], counts: Iterable[int]) -> Iterator[Tuple[int, int, int]]:
     """For each instruction that costs fuel its function, its byte and how often it ran."""
     for row, count in zip(rows, counts):
         ops = module.bodies[row.function].ops

@@ -7,15 +7,18 @@ Each request is a file. The tool prints the functions and lines that never ran. 
 editors. Without DWARF it reports functions alone. --least N fails if less than N percent of the lines ran.
 """
 
+from __future__ import annotations
+
 import collections
 import sys
+from typing import Counter, DefaultDict, Dict, Iterable, List, Mapping, Optional, Tuple
 
-from . import Error, _tool, counts, lines, runs, tree
+from . import Error, _tool, counts, lines, runs, tree, wasm
 
 
-def ranges(numbers):
+def ranges(numbers: Iterable[int]) -> str:
     """Numbers as "3, 7-9"."""
-    parts = []
+    parts: List[List[int]] = []
     for it in sorted(numbers):
         if parts and parts[-1][1] == it - 1:
             parts[-1][1] = it
@@ -27,13 +30,14 @@ def ranges(numbers):
 class Coverage:
     """How often each instruction ran in all runs, and from it each function and line."""
 
-    def __init__(self, module, source):
+    def __init__(self, module: wasm.Module, source: Optional[lines.Lines]) -> None:
         self.module, self.source = module, source
         self.counted = counts.Counted(module.data)
         self.counts = [0] * len(self.counted.rows)
-        self.of_stopped, self.calls_of_stopped = collections.Counter(), collections.Counter()
+        self.of_stopped: Counter[Tuple[int, int]] = collections.Counter()
+        self.calls_of_stopped: Counter[int] = collections.Counter()
 
-    def add(self, run):
+    def add(self, run: runs.Call) -> runs.Ran:
         """Runs it with counters and without, and returns how the plain run ended. Prints a message if the two differ."""
         wanted = run.run()
         if wanted.ending != "done":
@@ -47,7 +51,7 @@ class Coverage:
             print(f"not exact: with counters, {run} ends differently: {did.ending}", file=sys.stderr)
         return wanted
 
-    def _stopped(self, run, wanted):
+    def _stopped(self, run: runs.Call, wanted: runs.Ran) -> str:
         """Adds a run that stopped, without the rest of the blocks in which its calls were. Returns why that is not possible."""
         try:
             measured = tree.measured(self.module, run, wanted)
@@ -58,28 +62,29 @@ class Coverage:
             self.calls_of_stopped[node.function] += node.calls
         return ""
 
-    def functions(self):
+    def functions(self) -> Dict[int, int]:
         """How often each function was called: its first block runs once per call."""
-        found = {}
+        found: Dict[int, int] = {}
         for row, count in zip(self.counted.rows, self.counts):
             found.setdefault(row.function, count + self.calls_of_stopped[row.function])
         return found
 
-    def operations(self):
+    def operations(self) -> Dict[int, int]:
         """How often each instruction that costs fuel ran, by its byte."""
         rows = counts.by_operation(self.module, self.counted.rows, self.counts)
         return {byte: count + self.of_stopped[function, byte] for function, byte, count in rows}
 
-    def lines(self):
+    def lines(self) -> Dict[str, Dict[int, int]]:
         """For each file how often each line ran: as often as its most frequent instruction."""
-        places, found = self.operations(), collections.defaultdict(dict)
-        for byte, frames in zip(places, self.source.look_up(list(places))):
+        places = self.operations()
+        found: DefaultDict[str, Dict[int, int]] = collections.defaultdict(dict)
+        for byte, frames in zip(places, self.source.look_up(list(places)) if self.source else []):
             for _, file, line in frames:
                 found[file][line] = max(found[file].get(line, 0), places[byte])
         return found
 
 
-def lcov(coverage, by_file):
+def lcov(coverage: Coverage, by_file: Mapping[str, Mapping[int, int]]) -> str:
     """The counts of each file's lines, in lcov's format."""
     out = []
     for file, held in sorted(by_file.items()):
@@ -88,7 +93,7 @@ def lcov(coverage, by_file):
     return "\n".join(out) + "\n"
 
 
-def main():
+def main() -> int:
     parser = _tool.words("cover", __doc__, ";\n1 also if --least is not reached")
     runs.add_words(parser)
     parser.add_argument("requests", metavar="FILE", nargs="*", help="the bytes of a request, - for standard input; default: one empty request")

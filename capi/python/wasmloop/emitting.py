@@ -1,21 +1,23 @@
 """Adds the import uv.emit to a module without it, so that a callback can emit. The imports come first among the functions, so the index of each
 function that the module defines becomes one more; its instructions stay as many."""
 
-from .wasm import CALL, CODE, ELEMENT, EXPORT, I32, I64, IMPORT, START, TYPE, Module, number, sized, text, u, vec
+from __future__ import annotations
+
+from .wasm import CALL, CODE, ELEMENT, EXPORT, I32, I64, IMPORT, START, TYPE, Body, Module, number, sized, text, u, vec
 
 EMIT = b"\x60" + sized(bytes([I64])) + sized(bytes([I32]))
 
 
-def with_emit(module):
+def with_emit(module: Module) -> Module:
     """The module, if it imports uv.emit; else one that does."""
     if "emit" in module.imported:
         return module
     first, data = len(module.imported), module.data
 
-    def moved(function):
+    def moved(function: int) -> bytes:
         return u(function + (function >= first))
 
-    def body(it):
+    def body(it: Body) -> bytes:
         code = (b"\x10" + moved(number(data, start + 1)[0]) if op == CALL else data[start:end] for start, op, end in it.ops)
         return sized(data[it.start:it.code] + b"".join(code))
 

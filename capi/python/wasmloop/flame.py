@@ -1,8 +1,11 @@
 """A flame graph as SVG for a browser: a box for each call, above its caller, as wide as its fuel. A click on a box zooms in, a click on the
 lowest box zooms out; / or Ctrl-F searches for functions."""
 
+from __future__ import annotations
+
 import html
 import zlib
+from typing import Dict, Iterable, Iterator, Mapping, Tuple
 
 WIDTH, ROW, TOP, LETTER, LEAST = 1200, 18, 62, 6.65, 0.4   # in pixels: of the picture, a row, the title, a letter, the smallest box
 
@@ -26,38 +29,49 @@ addEventListener('keydown',e=>{if(e.key=='/'||e.key=='f'&&e.ctrlKey){e.preventDe
 """
 
 
-def colour(name):
+class Tree:
+    """A call: its units, with those of what it calls, and these calls by name."""
+
+    def __init__(self) -> None:
+        self.units = 0
+        self.parts: Dict[str, Tree] = {}
+
+    def add(self, path: Iterable[str], units: int) -> None:
+        node = self
+        node.units += units
+        for name in path:
+            node = node.parts.setdefault(name, Tree())
+            node.units += units
+
+
+def colour(name: str) -> str:
     """A warm colour, the same for a name in every picture."""
     hue = zlib.crc32(name.encode())
     return f"hsl({8 + hue % 44},{72 + hue // 64 % 18}%,{58 + hue // 4096 % 12}%)"
 
 
-def tree(found):
-    """The units of each call path, as a tree of [units, {name: tree}]."""
-    root = [0, {}]
+def tree(found: Mapping[str, int]) -> Tree:
+    """The units of each call path, as a tree."""
+    root = Tree()
     for path, units in found.items():
-        node = root
-        node[0] += units
-        for name in path.split(";"):
-            node = node[1].setdefault(name, [0, {}])
-            node[0] += units
+        root.add(path.split(";"), units)
     return root
 
 
-def boxes(root, least):
+def boxes(root: Tree, least: float) -> Iterator[Tuple[int, int, int, str]]:
     """Each box of at least `least` units: its start, units, depth and name, callers first."""
     todo = [(root, "all", 0, 0)]
     while todo:
-        (units, parts), name, at, depth = todo.pop()
-        if units < least:
+        call, name, at, depth = todo.pop()
+        if call.units < least:
             continue
-        yield at, units, depth, name
-        for part in sorted(parts):
-            todo.append((parts[part], part, at, depth + 1))
-            at += parts[part][0]
+        yield at, call.units, depth, name
+        for part in sorted(call.parts):
+            todo.append((call.parts[part], part, at, depth + 1))
+            at += call.parts[part].units
 
 
-def box(at, units, depth, name, whole, floor):
+def box(at: int, units: int, depth: int, name: str, whole: int, floor: int) -> str:
     x, width = WIDTH * at / whole, WIDTH * units / whole
     room, y, shown = int((width - 8) / LETTER), floor - (depth + 1) * ROW, html.escape(name, quote=True)
     label = "" if room < 3 else name if len(name) <= room else name[:room - 1] + "…"
@@ -66,10 +80,10 @@ def box(at, units, depth, name, whole, floor):
             f'<text x="{x + 4:.2f}" y="{y + 12.5}">{html.escape(label)}</text></g>')
 
 
-def picture(found, title, about):
+def picture(found: Mapping[str, int], title: str, about: str) -> str:
     """The picture of call paths with their units."""
     root = tree(found)
-    whole = max(root[0], 1)
+    whole = max(root.units, 1)
     rows = list(boxes(root, LEAST * whole / WIDTH))
     deep = max((depth for _, _, depth, _ in rows), default=0) + 1
     height = TOP + deep * ROW + 12

@@ -9,31 +9,35 @@ other. With --in, the function gets the address and the length of the file's byt
 length. Calls of "uv" return -1 meanwhile, as in uv_work; the tool reports them. The limits of a module stay: 64 pages and 1,048,576 bytes.
 """
 
+from __future__ import annotations
+
 import re
 import sys
+from typing import Dict, List, Optional, Set, Tuple, Union
 
-from . import Error, Stopped, _tool, counts, explain, wasm
+from . import Error, Instance, Stopped, _tool, counts, explain, wasm
 from .wasm import PAGE, constant, i32, sized, text, u, vec
 
+Answer = Union[None, int, Tuple[int, ...]]
 GAP = 12                                                # more zeros than this take more bytes than a new segment
 
 
-def with_globals(module):
+def with_globals(module: wasm.Module) -> bytes:
     """The module with all globals exported, for the host to read."""
     more = [text(f"freeze global {it}") + b"\3" + u(it) for it in range(len(module.globals()))]
     return module.written({wasm.EXPORT: vec(module.export_bytes() + more)})
 
 
-def parts(memory):
+def parts(memory: bytes) -> List[Tuple[int, bytes]]:
     """The parts of a memory that are not zero, as (address, bytes), with fewer than GAP zeros in a row."""
     return [(it.start(), it.group()) for it in re.finditer(rb"[^\0]+(?:\0{1,%d}[^\0]+)*" % (GAP - 1), memory)]
 
 
-def left_by(module, instance):
+def left_by(module: wasm.Module, instance: Instance) -> Tuple[bytes, int]:
     """The module that starts in the state of an instance of `with_globals`, and its number of segments."""
     memory = instance.memory[:] if module.memory else b""
     held = parts(memory)
-    replaced = {}
+    replaced: Dict[int, bytes] = {}
     if held:
         replaced[wasm.DATA] = vec([b"\0" + i32(at) + b"\x0b" + sized(it) for at, it in held])
     if module.globals():
@@ -46,19 +50,19 @@ def left_by(module, instance):
     return module.written(replaced, dropped), len(held)
 
 
-def call(instance, name, given, fuel, depth):
+def call(instance: Instance, name: str, given: Optional[bytes], fuel: int, depth: int) -> Tuple[Answer, int]:
     """Calls the function, with the bytes if there are any. Returns its result and the units used."""
     if given is None:
         return instance.call(name, fuel=fuel, depth=depth), instance.used
-    at = instance.call(f"{name}_room", len(given), fuel=fuel, depth=depth) % 2**32
-    used = instance.used
+    room = instance.call(f"{name}_room", len(given), fuel=fuel, depth=depth)
+    at, used = room % 2**32 if isinstance(room, int) else 0, instance.used
     if not at or at + len(given) > len(instance.memory):
         raise _tool.Failed(f"{name}_room returned {at} for {len(given)} bytes, which do not fit in the memory there")
     instance.memory[at:at + len(given)] = given
     return instance.call(name, at, len(given), fuel=fuel, depth=depth), used + instance.used
 
 
-def asked(data, name, given, fuel, depth):
+def asked(data: bytes, name: Optional[str], given: Optional[bytes], fuel: int, depth: int) -> List[str]:
     """The functions of "uv" that are called, by a second run with counters; empty if the counters do not fit."""
     try:
         counted = counts.Counted(data)
@@ -68,47 +72,49 @@ def asked(data, name, given, fuel, depth):
             found = counted.counts(it)
     except (_tool.Failed, Error):
         return []
-    module, names = counted.writer.module, set()
+    module = counted.writer.module
+    names: Set[str] = set()
     for _, byte, count in counts.by_operation(module, counted.rows, found):
         if count and data[byte] == wasm.CALL and wasm.number(data, byte + 1)[0] < len(module.imported):
             names.add(module.imported[wasm.number(data, byte + 1)[0]])
     return sorted(names)
 
 
-def freeze(data, name=None, given=None, fuel=1 << 40, depth=128):
+def freeze(data: bytes, name: Optional[str] = None, given: Optional[bytes] = None, fuel: int = 1 << 40, depth: int = 128) -> Tuple[bytes, Answer, int, int]:
     """The frozen module, the function's result, the units used, and the number of segments."""
     host, module = _tool.load(data, "the module")
-    for wanted, takes in ((name, 0 if given is None else 2), (f"{name}_room", 1)) if given is not None else ((name, 0),) if name else ():
+    for wanted, takes in [] if not name else [(name, 0)] if given is None else [(name, 2), (f"{name}_room", 1)]:
         try:
             params = len(host.function(wanted)[0])
         except ValueError as why:
             raise _tool.Failed(str(why), 2) from None
-        except _tool.Error:
+        except Error:
             raise _tool.Failed(f"the module exports no function {wanted}", 2) from None
         if params != takes:
             raise _tool.Failed(f"{wanted} takes {params} arguments, expected {takes}", 2)
     opened, _ = _tool.load(with_globals(module), "the module with its globals exported")
     try:
         with opened.instance(fuel=fuel, depth=depth) as it:
-            answer, used = None, it.used
+            answer: Answer = None
+            used = it.used
             if name:
                 answer, more = call(it, name, given, fuel, depth)
                 used += more
             made, segments = left_by(module, it)
             memory = it.memory[:] if module.memory else b""
-    except Stopped as why:
+    except Stopped as stopped:
         where = it.stop_told(data) if "it" in locals() else None
-        raise _tool.Failed(f"{why}{', ' + where if where else ''}", 4) from None
+        raise _tool.Failed(f"{stopped}{', ' + where if where else ''}", 4) from None
     if len(made) > wasm.MOST_BYTES:
         raise _tool.Failed(f"the frozen module would have {len(made):,} bytes, and {wasm.MOST_BYTES:,} is the limit: {sum(map(bool, memory)):,} bytes of "
                            "its memory are not zero", 3)
-    why = explain(made)
-    if why:
-        raise _tool.Failed(f"the frozen module is rejected: {why}", 3)
+    fault = explain(made)
+    if fault:
+        raise _tool.Failed(f"the frozen module is rejected: {fault}", 3)
     return made, answer, used, segments
 
 
-def main():
+def main() -> int:
     parser = _tool.words("freeze", __doc__)
     parser.add_argument("guest", metavar="GUEST", help="the module")
     parser.add_argument("-o", dest="out", metavar="OUT", required=True, help="the frozen module")

@@ -8,14 +8,18 @@ GUEST.found, or to GUEST.found.2 beside an earlier one, and the tool prints the 
 added to the corpus, a folder. The tool needs clang with libFuzzer (Debian: clang, with the libclang-rt-14-dev that it recommends).
 """
 
+from __future__ import annotations
+
+import argparse
 import os
 import re
 import shlex
 import subprocess
 import sys
 import tempfile
+from typing import Dict, Iterable, List, Tuple, Union
 
-from . import _tool, cc, lines, runs, wasm
+from . import Module, _tool, cc, lines, runs, wasm
 from ._abi import _library
 from .counts import ADD, LOAD, STORE, Writer, get
 from .wasm import I32, I64, constant, i32, text, u
@@ -28,28 +32,28 @@ COMPARES = {0x46: I32, 0x47: I32, 0x51: I64, 0x52: I64}  # eq and ne
 class FuzzWriter(Writer):
     """Writes the guest that counts its blocks, keeps what it compares, and exports where."""
 
-    def pages_for(self, least, room):
+    def pages_for(self, least: int, room: int) -> int:
         """Few: a small memory makes an instance quickly."""
         grows = any(op == wasm.MEMORY_GROW for body in self.module.bodies for _, op, _ in body.ops)
         return min(super().pages_for(least, room), least + room + (SPARE if grows else 0))
 
-    def more_room(self):
+    def more_room(self) -> int:
         return 16 * (MOST_COMPARES + 1)
 
-    def places(self):
+    def places(self) -> Dict[str, int]:
         """The exported globals, with their values."""
         compares = (self.counters + 4 * len(self.rows) + 15) // 16 * 16
         return {"counters": self.counters, "count": len(self.rows), "input": self.bytes_in, "input length": self.words,
                 "compares": compares, "compare count": self.words + 8}
 
-    def more_globals(self):
+    def more_globals(self) -> List[bytes]:
         return [bytes([I32, 0]) + constant(I32, it) for it in self.places().values()]
 
-    def exports(self):
+    def exports(self) -> List[bytes]:
         first = len(self.module.globals()) + 1
         return [*super().exports(), *(text(f"fuzz {name}") + b"\3" + u(first + k) for k, name in enumerate(self.places()))]
 
-    def compare(self, op):
+    def compare(self, op: int) -> int:
         """The index of a function that compares, and keeps both numbers."""
         places, wide = self.places(), b"\xad" if COMPARES[op] == I32 else b""
         count = i32(places["compare count"])
@@ -58,11 +62,11 @@ class FuzzWriter(Writer):
         code = keep + count + count + LOAD + i32(1) + ADD + STORE + get(0) + get(1) + bytes([op])
         return self.function(f"compare {op}", [COMPARES[op]] * 2, [I32], [], code)
 
-    def piece(self, place, start, op, end):
+    def piece(self, place: int, start: int, op: int, end: int) -> bytes:
         return b"\x10" + u(self.compare(op)) if op in COMPARES else super().piece(place, start, op, end)
 
 
-def counted(data):
+def counted(data: bytes) -> Tuple[bytes, bytes]:
     """The counted guest, and the cost of each block."""
     for kind in (Writer.INLINE, Writer.CALLS):
         writer = FuzzWriter(wasm.Module(data), kind)
@@ -72,13 +76,13 @@ def counted(data):
     raise _tool.Failed(f"with counters the module has {len(code):,} bytes, more than {wasm.MOST_BYTES:,}")
 
 
-def beside(name, checkout):
+def beside(name: str, checkout: str) -> str:
     """A file of this package, or of the checkout."""
     file = os.path.join(cc.HERE, "guest", name)
     return file if os.path.isfile(file) else os.path.normpath(os.path.join(cc.HERE, "../..", checkout, name))
 
 
-def built(folder, blocks):
+def built(folder: str, blocks: int) -> str:
     """The fuzzer for so many blocks, linked with the library that this package uses."""
     library, made = os.environ.get("WASMLOOP_LIBRARY") or _library(), os.path.join(folder, "fuzz")
     place = os.path.abspath(library)
@@ -91,9 +95,10 @@ def built(folder, blocks):
     return made
 
 
-def progress(stream, shown):
+def progress(stream: Iterable[str], shown: Union[bool, str]) -> Tuple[int, int, List[str]]:
     """Reads libFuzzer's messages to their end. Returns how many inputs ran and how many blocks they reached, and the last lines."""
-    runs_done, blocks, last = 0, 0, []
+    runs_done, blocks = 0, 0
+    last: List[str] = []
     for line in stream:
         last = [*last, line.rstrip()][-5:]
         told = re.match(r"#(\d+)\s.*\bcov: (\d+)", line)
@@ -108,7 +113,7 @@ def progress(stream, shown):
     return runs_done, blocks, last
 
 
-def fuzz(given, data, folder, found):
+def fuzz(given: argparse.Namespace, data: bytes, folder: str, found: str) -> Tuple[bool, int, int]:
     """Runs the fuzzer. Returns whether it wrote a finding, how many inputs ran, and how many blocks they reached."""
     code, costs = counted(data)
     files = {"GUEST": code, "COSTS": costs}
@@ -119,6 +124,7 @@ def fuzz(given, data, folder, found):
     words = [f"-exact_artifact_path={found}", f"-max_total_time={given.seconds}", f"-max_len={given.most}", f"-seed={given.seed}", "-timeout=600"]
     command = [built(folder, len(costs) // 4), *words, *([given.corpus] if given.corpus else [])]
     with subprocess.Popen(command, env=environment, stderr=subprocess.PIPE, encoding="utf-8", errors="replace") as it:
+        assert it.stderr
         ran, blocks, last = progress(it.stderr, "all" if given.verbose else sys.stderr.isatty())
     is_found = os.path.isfile(found)
     if not ran and not is_found:
@@ -128,13 +134,13 @@ def fuzz(given, data, folder, found):
     return is_found, ran, blocks
 
 
-def free_name(guest):
+def free_name(guest: str) -> str:
     """Where a finding goes: GUEST.found, or GUEST.found.2 and so on beside earlier ones."""
     names = (f"{guest}.found{'' if it == 1 else f'.{it}'}" for it in range(1, 10**6))
     return next(it for it in names if not os.path.exists(it))
 
 
-def explained(given, data, host, found):
+def explained(given: argparse.Namespace, data: bytes, host: Module, found: str) -> str:
     """What the finding does: the sentence on a run that stopped, or its units."""
     run = runs.Request(data, host, given.op, _tool.read(found), given.depth, given.fuel)
     ran = run.run()
@@ -143,7 +149,7 @@ def explained(given, data, host, found):
     return source.told(told) if source else told
 
 
-def main():
+def main() -> int:
     parser = _tool.words("fuzz", __doc__, ";\n4 also if there is a finding")
     parser.add_argument("guest", metavar="GUEST", help="the module; with DWARF, its lines are reported too")
     parser.add_argument("op", metavar="OP", nargs="?", type=int, default=0, help="the argument of uv_work (0)")

@@ -11,15 +11,18 @@ The convention: the export guest_log_ring is a function without parameters that 
 how many bytes were written (modulo 2^32), and the address of the ring.
 """
 
-import sys
+from __future__ import annotations
 
-from . import RANGE, Error, _tool, callbacks, replay, runs, wasm
+import sys
+from typing import Callable, List, Optional, Tuple
+
+from . import RANGE, Error, Instance, _tool, callbacks, replay, runs, wasm
 from .counts import Counted, Writer
 
 EXPORT, HEAD, MOST_RING = "guest_log_ring", 12, 1 << 20
 
 
-def address_of(module):
+def address_of(module: wasm.Module) -> Optional[int]:
     """The address that guest_log_ring returns, if it is a constant; None if it is not, or there is no such export."""
     index = next((it - len(module.imported) for name, kind, it in module.exports if (name, kind) == (EXPORT, 0)), -1)
     if index < 0:
@@ -28,7 +31,7 @@ def address_of(module):
     return wasm.signed(module.data, ops[0][0] + 1)[0] % 2**32 if [op for _, op, _ in ops] == [0x41, wasm.END] else None
 
 
-def lines_in(read, at):
+def lines_in(read: Callable[[int, int], bytes], at: int) -> List[str]:
     """The lines of the ring whose head is at this address; `read` takes an address and a length. The first may be cut."""
     head = read(at, HEAD)
     size, written, ring = (int.from_bytes(head[k:k + 4], "little") for k in (0, 4, 8))
@@ -41,7 +44,7 @@ def lines_in(read, at):
     return data.decode(errors="replace").splitlines()
 
 
-def read(instance):
+def read(instance: Instance) -> List[str]:
     """The lines that the guest of an instance has logged; none if it exports no guest_log_ring. Raises Error if it has no ring there."""
     try:
         at = instance.call(EXPORT)
@@ -50,7 +53,7 @@ def read(instance):
     return lines_in(lambda start, count: instance.memory[start:start + count], at % 2**32) if isinstance(at, int) else []
 
 
-def of_callback(run):
+def of_callback(run: callbacks.Callback) -> List[str]:
     """The lines in the memory of a recorded loop, after a callback."""
     at = address_of(wasm.Module(run.data))
     if at is None:
@@ -58,7 +61,7 @@ def of_callback(run):
     return lines_in(run.read, at)
 
 
-def of_request(run):
+def of_request(run: runs.Call) -> Tuple[List[str], Optional[str]]:
     """The lines of a request, and the sentence on it if it stopped."""
     counted = Counted(run.data, (Writer.NONE,))
     if (EXPORT, 0) not in [(name, kind) for name, kind, _ in counted.writer.module.exports]:
@@ -71,7 +74,7 @@ def of_request(run):
         return read(it), run.run().told
 
 
-def main():
+def main() -> int:
     parser = _tool.words("log", __doc__)
     runs.add_words(parser)
     parser.add_argument("--in", dest="request", metavar="FILE", help="the bytes of the request, - for standard input; default: none")
@@ -80,7 +83,7 @@ def main():
     data = _tool.read(given.guest)
     if data.startswith(b'["loop"'):
         run = callbacks.Callback(replay.rows_of(given.guest), given.callback or callbacks.LAST)
-        found, told = of_callback(run), run.told
+        found, told = of_callback(run), run.told or None
     else:
         host, _ = _tool.load(data, given.guest)
         found, told = of_request(runs.of_words(given, data, host, [_tool.read(given.request) if given.request else b""])[0])

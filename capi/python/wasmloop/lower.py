@@ -22,7 +22,10 @@ The module is validated first, with floats distinct from integers. If two functi
 further parameters. Names of functions are kept. A module that cannot be rewritten is rejected, and nothing is written.
 """
 
+from __future__ import annotations
+
 import os
+from typing import Optional, Tuple
 
 from . import _tool
 from .lowering.binary import Refused
@@ -32,19 +35,19 @@ from .lowering.rewriting import Lowering
 SOFT = os.path.join(os.path.dirname(os.path.abspath(__file__)), "soft.wasm")
 
 
-def lower(data, soft=None):
+def lower(data: bytes, soft: Optional[bytes] = None) -> Tuple[bytes, Lowering]:
     """The bytes of the rewritten module, and the Lowering that made it. `soft` are the bytes of soft.c, compiled; None: without floats."""
-    soft = Module(soft) if soft else None
-    if soft and soft.imports:
+    functions = Module(soft) if soft else None
+    if functions and functions.imports:
         raise Refused("SOFT.wasm has imports: link soft.c by itself")
     try:
-        lowering = Lowering(Module(data), soft)
+        lowering = Lowering(Module(data), functions)
         return lowering.module(), lowering
     except (IndexError, KeyError):
         raise Refused("an index of something that isn't there") from None
 
 
-def main():
+def main() -> int:
     parser = _tool.words("lower", __doc__)
     parser.add_argument("source", metavar="IN", help="the module")
     parser.add_argument("target", metavar="OUT", help="the rewritten module; may be IN")

@@ -15,28 +15,33 @@ The first prints each call that did not return, with its location and its source
 call 73, by default the last one. Module, limits, calls and the bytes that the host wrote determine everything else: a call takes some 30 bytes.
 """
 
+from __future__ import annotations
+
 import hashlib
 import json
 import os
 import sys
+from typing import Any, Callable, List, Optional, Tuple, Union
 
-from . import Call as PlainCall, Instance as Plain, Late, Memory as PlainMemory, Module, Stopped, _tool, freeze, lines, replay, wasm
+from . import Buffer, Call as PlainCall, Instance as Plain, Late, Memory as PlainMemory, Module, Stopped, _tool, freeze, lines, replay, wasm
+from .record import Note
 
 
 class Instance(Plain):
     """An Instance that writes its calls to `note`, a path or a text file. A call that is refused has no effect, and is not written."""
 
-    def __init__(self, module, data, note, fuel=1_000_000, depth=64):
+    def __init__(self, module: Module, data: bytes, note: Note, fuel: int = 1_000_000, depth: int = 64) -> None:
         super().__init__(module, fuel, depth)
-        self._file, self._mine = (open(note, "w", encoding="ascii"), True) if isinstance(note, (str, bytes, os.PathLike)) else (note, False)
+        self._mine = isinstance(note, (str, bytes, os.PathLike))
+        self._file = open(note, "w", encoding="ascii") if isinstance(note, (str, bytes, os.PathLike)) else note
         self.note("instance", hashlib.sha256(data).hexdigest(), bytes(data).hex(), fuel, depth)
-        self._begun = None
+        self._begun: Optional[Tuple[str, Tuple[int, ...], int, int, int]] = None
         self.memory.__class__ = _Memory
 
-    def note(self, *row):
+    def note(self, *row: object) -> None:
         self._file.write(json.dumps(row, separators=(",", ":")) + "\n")
 
-    def call(self, name, *args, fuel=1_000_000, depth=64, deadline=None):
+    def call(self, name: str, *args: int, fuel: int = 1_000_000, depth: int = 64, deadline: Optional[float] = None) -> Union[None, int, Tuple[int, ...]]:
         try:
             told = super().call(name, *args, fuel=fuel, depth=depth, deadline=deadline)
         except Stopped as why:                          # one that was given up: as a call with just the fuel that it has used
@@ -46,19 +51,19 @@ class Instance(Plain):
         self.note("call", name, args, fuel, depth)
         return told
 
-    def begin(self, name, *args, fuel=1_000_000, depth=64):
+    def begin(self, name: str, *args: int, fuel: int = 1_000_000, depth: int = 64) -> PlainCall:
         super().begin(name, *args, fuel=fuel, depth=depth)
-        self._begun = [name, args, fuel, depth, 0]
+        self._begun = name, args, fuel, depth, 0
         return _Call(self, name)
 
-    def call_for(self, name, *args, units, fuel=1_000_000, depth=64):
+    def call_for(self, name: str, *args: int, units: int, fuel: int = 1_000_000, depth: int = 64) -> PlainCall:
         ended = super().call_for(name, *args, units=units, fuel=fuel, depth=depth)._ended
-        self._begun = [name, args, fuel, depth, units]
+        self._begun = name, args, fuel, depth, units
         if ended:
             self._over(None)
         return _Call(self, name, ended)
 
-    def _over(self, used):
+    def _over(self, used: Optional[int]) -> None:
         """A call in slices is written when it is over, or when it is given up: as a call with just the fuel that it has used."""
         if self._begun:
             name, args, fuel, depth, units = self._begun
@@ -66,7 +71,7 @@ class Instance(Plain):
             self._file.flush()
             self._begun = None
 
-    def close(self):
+    def close(self) -> None:
         if hasattr(self, "_begun"):
             self._over(0)
         super().close()
@@ -75,27 +80,32 @@ class Instance(Plain):
 
 
 class _Call(PlainCall):
-    def run_for(self, units):
+    _instance: Instance
+
+    def run_for(self, units: int) -> bool:
         over = super().run_for(units)
         if over:
             self._instance._over(None)
-        else:
-            self._instance._begun[4] += units
+        elif self._instance._begun:
+            name, args, fuel, depth, used = self._instance._begun
+            self._instance._begun = name, args, fuel, depth, used + units
         return over
 
-    def stop(self):
+    def stop(self) -> int:
         used = super().stop()
         self._instance._over(used)
         return used
 
 
 class _Memory(PlainMemory):
-    def __setitem__(self, index, data):
+    _instance: Instance
+
+    def __setitem__(self, index: slice, data: Buffer) -> None:
         super().__setitem__(index, data)
         self._instance.note("write", index.start or 0, bytes(data).hex())
 
 
-def run(rows, data, told=None):
+def run(rows: replay.Rows, data: bytes, told: Optional[Callable[[Plain, int, str, object, int], None]] = None) -> Plain:
     """An instance of `data`, after these rows. `told` gets each call's number, its words and how it ended."""
     it = Module(data).instance(rows[0][3], rows[0][4])
     calls = 0
@@ -106,7 +116,7 @@ def run(rows, data, told=None):
         name, args, fuel, depth = more
         calls += 1
         try:
-            ended = it.call(name, *args, fuel=fuel, depth=depth)
+            ended: object = it.call(name, *args, fuel=fuel, depth=depth)
         except Stopped as why:
             ended = why
         if told:
@@ -114,7 +124,7 @@ def run(rows, data, told=None):
     return it
 
 
-def before(rows, number):
+def before(rows: replay.Rows, number: int) -> Tuple[replay.Rows, List[Any]]:
     """The rows before call `number`, and its words."""
     places = [at for at, row in enumerate(rows) if row[0] == "call"]
     if not 1 <= number <= len(places):
@@ -122,7 +132,7 @@ def before(rows, number):
     return rows[:places[number - 1]], rows[places[number - 1]]
 
 
-def main():
+def main() -> int:
     parser = _tool.words("plugin_record", __doc__)
     parser.add_argument("record", metavar="RECORD", help="the record of an instance")
     parser.add_argument("--debug", metavar="FILE", help="the module with DWARF, if the recorded one was stripped or lowered")
@@ -132,9 +142,10 @@ def main():
     given = parser.parse_args()
     rows = replay.rows_of(given.record, "instance", 5)
     data = bytes.fromhex(rows[0][2])
-    source, failed = lines.wanted(data, given.debug), []
+    source = lines.wanted(data, given.debug)
+    failed: List[int] = []
 
-    def told(it, number, words, ended, depth):
+    def told(it: Plain, number: int, words: str, ended: object, depth: int) -> None:
         if isinstance(ended, Stopped):
             failed.append(number)
             sentence = _tool.ended(f"call {number}: {words}", ended.ending, ended.trap, ended.used, it.stop_told(data), depth)

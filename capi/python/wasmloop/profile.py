@@ -9,22 +9,31 @@ counters do not fit, the tool says so, and call paths are sampled. --budget N fa
 that function does, without what it calls.
 """
 
+from __future__ import annotations
+
 import collections
 import os
 import sys
 
-from typing import NamedTuple, Tuple
+from typing import Collection, Counter, DefaultDict, Dict, Iterable, Iterator, List, Mapping, NamedTuple, Optional, Sequence, Tuple, TypeVar, Union
 
 from . import Error, _tool, callbacks, callgrind, counts, flame, lines, pprof, replay, runs, tree, wasm
+
+
+# A function and a byte in it; a call path: the calls from the outside, and the function.
+Place = Tuple[int, int]
+Path = Tuple[Tuple[Place, ...], int]
+Key = TypeVar("Key")
+AnyRun = Union[runs.Call, callbacks.Callback]
 
 
 class Cell(NamedTuple):
     """The units of a line at the end of a call path: the calls, as (function, byte) from the outside, the function, and the line's frames,
     the innermost first."""
 
-    calls: Tuple[Tuple[int, int], ...]
+    calls: Tuple[Place, ...]
     function: int
-    frames: Tuple[Tuple[str, str, int], ...]
+    frames: Tuple[lines.Frame, ...]
     units: int
 
 
@@ -32,57 +41,61 @@ class Profile:
     """The units of one run, by function, line and call path. They are exact, with the call tree in `nodes`; else `why` says why not, and call
     paths are sampled. Of a function on several call paths, each line's units are shared among them by weight."""
 
-    def __init__(self, module, run, source=None, samples=200, threads=3):
-        self.module, self.run, self.source, self.why, self.nodes = module, run, source, "", []
-        self.functions, self.lines = collections.Counter(), collections.Counter()
-        self.leaves, self.starts = collections.defaultdict(collections.Counter), {}
+    def __init__(self, module: wasm.Module, run: AnyRun, source: Optional[lines.Lines] = None, samples: int = 200, threads: int = 3) -> None:
+        self.module, self.run, self.source, self.why = module, run, source, ""
+        self.nodes: List[tree.Node] = []
+        self.functions: Counter[int] = collections.Counter()
+        self.lines: Counter[Tuple[int, str, int]] = collections.Counter()
+        self.leaves: DefaultDict[int, Counter[Tuple[lines.Frame, ...]]] = collections.defaultdict(collections.Counter)
+        self.starts: Dict[Tuple[int, Tuple[lines.Frame, ...]], int] = {}
         self.ran = run.run()
         try:
             operations, self.nodes = tree.measured(module, run, self.ran)
             weights = self._of_nodes()
         except (_tool.Failed, Error) as why:
-            if not run.can_be_sampled:
+            if isinstance(run, callbacks.Callback):
                 raise
             self.why = str(why)
             operations, weights = self._counted(), self._of_samples(run.sampled(samples, threads))
         for (function, _), units in operations.items():
             self.functions[function] += units
         if source:
-            self._count_lines(operations)
+            self._count_lines(source, operations)
         self.cells = list(self._cells(weights))
         self.paths = self._paths()
 
-    def _counted(self):
+    def _counted(self) -> Counter[Place]:
         """How often each instruction ran, by counters of blocks alone; empty if there is no exact count."""
-        if self.ran.ending != "done":
-            return {}
+        if self.ran.ending != "done" or isinstance(self.run, callbacks.Callback):
+            return collections.Counter()
         try:
             counted = counts.Counted(self.module.data)
             ended, found = self.run.counted(counted)
         except (_tool.Failed, Error):
-            return {}
-        operations = collections.Counter()
+            return collections.Counter()
+        operations: Counter[Place] = collections.Counter()
         for function, byte, count in counts.by_operation(self.module, counted.rows, found):
             operations[function, byte] += count
-        return operations if ended[:3] == self.ran[:3] and sum(operations.values()) == self.ran.used else {}
+        return operations if ended[:3] == self.ran[:3] and sum(operations.values()) == self.ran.used else collections.Counter()
 
-    def _count_lines(self, operations):
+    def _count_lines(self, source: lines.Lines, operations: Mapping[Place, int]) -> None:
         """Units by line, and of each function by the frames of its lines, each with its first byte."""
-        for ((function, byte), units), frames in zip(operations.items(), self.source.look_up([byte for _, byte in operations])):
-            self.lines[(function, *frames[0][1:]) if frames else (function, "", 0)] += units
+        for ((function, byte), units), frames in zip(operations.items(), source.look_up([byte for _, byte in operations])):
+            _, file, line = frames[0] if frames else ("", "", 0)
+            self.lines[function, file, line] += units
             self.leaves[function][tuple(frames)] += units
             self.starts.setdefault((function, tuple(frames)), byte)
 
-    def byte_at(self, function, operation):
+    def byte_at(self, function: int, operation: int) -> int:
         return self.module.bodies[function].ops[operation][0]
 
-    def lines_of(self, places):
+    def lines_of(self, places: Collection[Place]) -> Dict[Place, Tuple[str, int]]:
         """For each (function, byte) its file and line."""
         return {it: frames[0][1:] if frames else ("", 0) for it, frames in self.frames_of(places).items()}
 
-    def _of_nodes(self):
+    def _of_nodes(self) -> Counter[Path]:
         """The units of each call path: the calls, as (function, byte) from the outside, and the function."""
-        weights = collections.Counter()
+        weights: Counter[Path] = collections.Counter()
         for k, node in enumerate(self.nodes):
             if node.units:
                 path = tree.path_of(self.nodes, k)
@@ -90,18 +103,20 @@ class Profile:
                 weights[calls, node.function] += node.units
         return weights
 
-    def _of_samples(self, samples):
+    def _of_samples(self, samples: Iterable[Sequence[Place]]) -> Counter[Path]:
         """How often each call path was met."""
-        guests, weights = len(self.module.bodies), collections.Counter()
+        guests = len(self.module.bodies)
+        weights: Counter[Path] = collections.Counter()
         for sites in ([site for site in it if site[0] < guests] for it in samples):     # (functions after them stand for imports)
             if sites:
                 weights[tuple((site[0], runs.byte_of(self.module, site)) for site in reversed(sites[1:])), sites[0][0]] += 1
         return weights
 
-    def _cells(self, weights):
+    def _cells(self, weights: Mapping[Path, int]) -> Iterator[Cell]:
         """The cells. The exact units of a function are shared among its paths by weight, and those of each line among its paths by what is
         left, so that both sums are exact; a function on no path stands by itself. Without exact units, weights alone count."""
-        met, exact = collections.defaultdict(list), self.functions
+        met: DefaultDict[int, List[Tuple[Tuple[Place, ...], int]]] = collections.defaultdict(list)
+        exact = self.functions
         for (calls, function), weight in sorted(weights.items()):
             met[function].append((calls, weight))
         if not exact:
@@ -113,28 +128,30 @@ class Profile:
                 left.subtract(given)
                 yield from (Cell(calls, function, frames, part) for calls, part in given.items() if part)
 
-    def _paths(self):
+    def _paths(self) -> Counter[str]:
         """The units of each call path, by names; what was inlined into a function is on top."""
-        callers, found = self.frames_of({call for cell in self.cells for call in cell.calls}), collections.Counter()
+        callers = self.frames_of({call for cell in self.cells for call in cell.calls})
+        found: Counter[str] = collections.Counter()
         for calls, function, frames, units in self.cells:
             names = [name for call in calls for name in self.names(call[0], callers[call])]
             found[";".join([*names, *self.names(function, frames)])] += units
         return found
 
-    def frames_of(self, places):
+    def frames_of(self, places: Collection[Place]) -> Dict[Place, Sequence[lines.Frame]]:
         """The frames of each (function, byte), the innermost first."""
         return dict(zip(places, self.source.look_up([byte for _, byte in places]))) if self.source else dict.fromkeys(places, ())
 
-    def names(self, function, frames):
+    def names(self, function: int, frames: Sequence[lines.Frame]) -> List[str]:
         """The function's own name, and those of what was inlined there."""
         return [self.named(function), *(clean(name) for name, _, _ in reversed(frames[:-1]))]
 
-    def named(self, function):
+    def named(self, function: int) -> str:
         return clean(self.module.name(function))
 
-    def by_name(self):
+    def by_name(self) -> Tuple[Counter[str], Counter[str]]:
         """Of each function, inlined ones too, its own units, and those of what it called with it."""
-        alone, within = collections.Counter(), collections.Counter()
+        alone: Counter[str] = collections.Counter()
+        within: Counter[str] = collections.Counter()
         for path, units in self.paths.items():
             for name in set(path.split(";")):
                 within[name] += units
@@ -142,14 +159,15 @@ class Profile:
         return alone, within
 
 
-def clean(name):
+def clean(name: str) -> str:
     """A name for a folded stack."""
     return name.replace(";", ":").replace("\n", " ")
 
 
-def shared(parts, units):
+def shared(parts: Iterable[Tuple[Key, int]], units: int) -> Counter[Key]:
     """Whole units, shared among the parts by weight. If these are at most the sum of the weights, no part gets more than its own."""
-    found, parts = collections.Counter(), list(parts)
+    found: Counter[Key] = collections.Counter()
+    parts = list(parts)
     rest, weight = units, sum(it for _, it in parts)
     for name, mine in parts:
         given = rest * mine // weight if weight else 0
@@ -158,7 +176,7 @@ def shared(parts, units):
     return found
 
 
-def tell(profile, guest, most):
+def tell(profile: Profile, guest: str, most: int) -> None:
     ran, whole = profile.ran, max(profile.ran.used, 1)
     print(f"{os.path.basename(guest)}: {profile.run}: {ran.ending}, {ran.used:,} units")
     if profile.why:
@@ -168,23 +186,23 @@ def tell(profile, guest, most):
         print(f"\n{'alone':>14} {'percent':>7} {'within':>7}  function")
     for name, units in alone.most_common(most):
         print(f"{units:>14,} {100 * units / whole:7.2f} {100 * within[name] / whole:7.2f}  {name}")
-    by_line = collections.Counter()
-    for (_, file, line), units in profile.lines.items():
-        by_line[f"{_tool.near(file)}:{line}" if file else "without a line"] += units
+    by_line: Counter[str] = collections.Counter()
+    for (_, file, number), units in profile.lines.items():
+        by_line[f"{_tool.near(file)}:{number}" if file else "without a line"] += units
     if by_line:
         print(f"\n{'units':>14} {'percent':>7}  line")
     for line, units in by_line.most_common(most):
         print(f"{units:>14,} {100 * units / whole:7.2f}  {line}")
 
 
-def over_budget(profile, budgets):
+def over_budget(profile: Profile, budgets: Iterable[str]) -> Iterator[str]:
     """A sentence on each budget that is exceeded."""
     alone, _ = profile.by_name()
     known = {profile.named(it) for it in range(len(profile.module.bodies))} | set(alone)
     for budget in budgets:
-        name, _, most = budget.rpartition("=")
+        name, _, units = budget.rpartition("=")
         try:
-            most = int(most)
+            most = int(units)
         except ValueError:
             raise _tool.Failed(f"--budget {budget}: expected [FUNCTION=]UNITS", 2) from None
         if name and not profile.functions:
@@ -195,7 +213,7 @@ def over_budget(profile, budgets):
             yield f"{name or profile.run}: {alone[name] if name else profile.ran.used:,} units exceed the budget of {most:,}"
 
 
-def main():
+def main() -> int:
     parser = _tool.words("profile", __doc__, ";\n1 also if a budget is exceeded")
     runs.add_words(parser)
     parser.add_argument("--in", dest="request", metavar="FILE", help="the bytes of the request, - for standard input; default: none")
@@ -211,7 +229,7 @@ def main():
     given = parser.parse_args()
     data = _tool.read(given.guest)
     if data.startswith(b'["loop"'):
-        run = callbacks.Callback(replay.rows_of(given.guest), given.callback)
+        run: AnyRun = callbacks.Callback(replay.rows_of(given.guest), given.callback)
         data, module = run.data, wasm.Module(run.data)
     else:
         host, module = _tool.load(data, given.guest)
@@ -233,7 +251,8 @@ def main():
     for why in passed:
         print(f"over budget: {why}", file=sys.stderr)
     if profile.ran.ending != "done":
-        print(source.told(profile.ran.told) if source else profile.ran.told, file=sys.stderr)
+        told = profile.ran.told or ""
+        print(source.told(told) if source else told, file=sys.stderr)
         return 4
     return 1 if passed else 0
 

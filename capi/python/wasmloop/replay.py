@@ -9,13 +9,20 @@ error, with its source line if the module, or the one that --debug names, has DW
 and can go back. --script writes a script with the same log; the host must have made no requests of its own.
 """
 
+from __future__ import annotations
+
 import json
 import sys
+from typing import Any, Callable, Dict, List, Optional, Sequence, Set
 
-from . import ENTERED, FAILED, NOT_RUN, OVER, RAN, SKIPPED, TIMERS, WORK_DONE, Loop, Module, _tool, lines
+from . import ENTERED, FAILED, NOT_RUN, OVER, RAN, SKIPPED, TIMERS, WORK_DONE, Did, Job, Loop, Module, _tool, lines
 
 PHASES, KINDS, WORKERS = "begin timers idle poll check closing".split(), "start main timer idle after async check close".split(), 16
 HELP = "n or Enter: next; b: back; g N: go to line N; c: continue to the failure or the end; w: where it failed; q: quit"
+
+
+# What a record has, a row each: a word and what belongs to it.
+Rows = Sequence[List[Any]]
 
 
 class Differs(_tool.Failed):
@@ -26,9 +33,9 @@ class Wrong(_tool.Failed):
     """The file is not a record."""
 
 
-def rows_of(file, of="loop", count=6):
+def rows_of(file: str, of: str = "loop", count: int = 6) -> Rows:
     """The rows of a record of a loop, a list each. A last line that was cut off is dropped."""
-    rows = []
+    rows: List[List[Any]] = []
     for number, line in enumerate(_tool.read(file).decode("ascii", "replace").split("\n"), 1):
         try:
             if line:
@@ -42,7 +49,7 @@ def rows_of(file, of="loop", count=6):
     return rows
 
 
-def line_of(did, emits):
+def line_of(did: Did, emits: Sequence[int]) -> str:
     """A step as a line of a script's log."""
     if did.what == ENTERED:
         return f"loop 0 enter {PHASES[did.phase]} {did.now}"
@@ -55,7 +62,7 @@ def line_of(did, emits):
     return f"loop 0 run {KINDS[did.kind]} {did.number} {ending} used {did.used}{told}"
 
 
-def failure(did, where, depth):
+def failure(did: Did, where: Optional[str], depth: int) -> str:
     """The sentence on a callback that did not return."""
     named = ("timer", "idle", "after-work of request", "async", "check", "close")
     who = ("start function", "uv_main", *(f"{it} {did.number}" for it in named))[did.kind]
@@ -66,16 +73,18 @@ class Replay:
     """A loop that is driven by a record. `at` counts the rows so far, `log` has the lines of the last one, `told` its message; `failed` is set once
     a callback did not return, and `full` if the record ended at its limit."""
 
-    def __init__(self, rows):
+    def __init__(self, rows: Rows) -> None:
         try:
             _, self.digest, code, fuel, work_fuel, depth = rows[0]
             self.code = bytes.fromhex(code)
             self.loop = Loop(Module(self.code), 0, fuel, work_fuel, depth)
         except (TypeError, ValueError) as why:
             raise Wrong(f"line 1 of the record: {why}") from None
-        self.rows, self.at, self.jobs, self.log, self.failed, self.full, self.told, self.depth = rows, 1, {}, [], False, False, "", depth
+        self.rows, self.at, self.depth, self.failed, self.full, self.told = rows, 1, depth, False, False, ""
+        self.jobs: Dict[int, Job] = {}
+        self.log: List[str] = []
 
-    def next(self):
+    def next(self) -> bool:
         """Runs the next row. Returns False if there is none."""
         if self.at == len(self.rows):
             return False
@@ -91,19 +100,18 @@ class Replay:
             raise Wrong(f"line {self.at} of the record: {json.dumps(self.rows[self.at - 1])} is not possible here") from None
         return True
 
-    def _same(self, what, was, now):
+    def _same(self, what: str, was: object, now: object) -> None:
         if was != now:
             raise Differs(f"line {self.at} of the record: {what} was {was}, and now is {now}")
 
-    def _step(self, count=1):
+    def _step(self, count: int = 1) -> None:
         for _ in range(count):
-            did = self._one_step()
-        return did
+            self._one_step()
 
-    def _full(self):
+    def _full(self) -> None:
         self.full = True
 
-    def _one_step(self):
+    def _one_step(self) -> Did:
         did = self.loop.step()
         self.log.append(line_of(did, self.loop.emits() if did.what == RAN and did.emits else []))
         if did.what == RAN and did.ending:
@@ -111,7 +119,7 @@ class Replay:
             self.told = failure(did, self.loop.stop_told(self.code), self.depth)
         return did
 
-    def _turn(self, most):
+    def _turn(self, most: int) -> None:
         ran = 0
         while True:
             did = self._one_step()
@@ -120,38 +128,39 @@ class Replay:
                     or did.what == RAN and (did.emits or did.ending or ran == most)):
                 return
 
-    def _memory(self):
+    def _memory(self) -> None:
         raise Differs(f"line {self.at} of the record: an allocation failed for a callback, which a replay cannot repeat")
 
-    def _clock(self, ms):
+    def _clock(self, ms: int) -> None:
         self.log.append(f"clock 0 {self.loop.clock(ms)}")
 
-    def _send(self, number):
+    def _send(self, number: int) -> None:
         self.loop.send(number)
         self.log.append(f"send 0 {number}")
 
-    def _cancel(self, request, was):
+    def _cancel(self, request: int, was: int) -> None:
         answer = self.loop.cancel(request)
         self.log.append(f"cancel 0 {request} answer {answer}")
         self._same("the result of a cancel", was, answer)
 
-    def _request(self, op, data, was):
+    def _request(self, op: int, data: str, was: int) -> None:
         answer = self.loop.request(op, bytes.fromhex(data))
         self.log.append(f"request 0 op {op} bytes {len(data) // 2} answer {answer}")
         self._same("the result of a request", was, answer)
 
-    def _next(self, request):
+    def _next(self, request: int) -> None:
         job = self.loop.next_job()
         self._same("the next job's request", request, job.about().request if job else None)
-        self.jobs[request] = job
+        if job:
+            self.jobs[request] = job
         self.log.append(f"post 0 request {request}")
 
-    def _start(self, request, was):
+    def _start(self, request: int, was: int) -> None:
         known = self.loop.start(self.jobs[request])
         self.log.append(f"start 0 loop 0 request {request} {'begun' if known else 'dropped'}")
         self._same("whether the start was valid", was, int(known))
 
-    def _accept(self, request, was, memory=None):
+    def _accept(self, request: int, was: int, memory: Optional[int] = None) -> None:
         job = self.jobs.pop(request)
         if memory:
             raise Differs(f"line {self.at} of the record: an allocation failed for request {request}, which a replay cannot repeat")
@@ -165,12 +174,15 @@ class Replay:
         self._same("whether the reply was accepted", was, int(known))
 
 
-def script_of(rows):
+def script_of(rows: Rows) -> str:
     """The record as a script. A turn becomes as many steps as the replay takes. A worker takes a job when it is started, or accepted without a
     start; jobs are taken in the order of their posts."""
-    steps, waiting, workers, started = [], [], {}, set()
+    steps: List[List[Any]] = []
+    waiting: List[int] = []
+    workers: Dict[int, int] = {}
+    started: Set[int] = set()
 
-    def take(request):
+    def take(request: int) -> None:
         while request in waiting:
             free = next((it for it in range(WORKERS) if it not in workers.values()), None)
             if free is None:
@@ -205,17 +217,17 @@ def script_of(rows):
 class Stepper:
     """Goes through a record by commands. To go back it begins again."""
 
-    def __init__(self, rows, say):
+    def __init__(self, rows: Rows, say: Callable[[str], None]) -> None:
         self.rows, self.say, self.replay, self.last = rows, say, Replay(rows), ""
 
-    def to(self, line):
+    def to(self, line: int) -> None:
         """Goes to this line of the record."""
         if line < self.replay.at:
             self.replay, self.last = Replay(self.rows), ""
         while self.replay.at < line and self.replay.next():
             self.last = self.replay.told or self.last
 
-    def show(self):
+    def show(self) -> None:
         at, row = self.replay.at, self.rows[self.replay.at - 1]
         told = f"{row[1]:.12}.. {len(self.replay.code)} bytes" if at == 1 else json.dumps(row[1:])[1:-1]
         self.say(f"{at} of {len(self.rows)}: {row[0]} {told if len(told) < 80 else told[:80] + '..'}")
@@ -224,7 +236,7 @@ class Stepper:
         if self.replay.told:
             self.say(f"    {self.replay.told}")
 
-    def obey(self, words):
+    def obey(self, words: List[str]) -> bool:
         """Obeys one command. Returns False to quit."""
         letter, *more = words or ["n"]
         if letter == "q":
@@ -249,7 +261,7 @@ class Stepper:
         return True
 
 
-def step_through(rows, source):
+def step_through(rows: Rows, source: Optional[lines.Lines]) -> int:
     stepper = Stepper(rows, lambda text: print(source.told(text) if source else text, flush=True))
     stepper.show()
     print(HELP)
@@ -259,7 +271,7 @@ def step_through(rows, source):
     return 4 if stepper.replay.failed else 0
 
 
-def main():
+def main() -> int:
     parser = _tool.words("replay", __doc__, ";\n1 also if a result differs from the record, or the file is not a record")
     parser.add_argument("record", metavar="RECORD", help="a file of wasmloop.record, record_wrap.c or the edge server")
     parser.add_argument("--debug", metavar="FILE", help="the module with DWARF, if the recorded one was stripped or lowered")

@@ -1,17 +1,23 @@
 """The runs that profile and cover measure: a request of uv_work, or a call of an export on an instance."""
 
+from __future__ import annotations
+
+import argparse
 import functools
 from concurrent.futures import ThreadPoolExecutor
-from typing import NamedTuple, Optional
+from typing import Iterable, List, NamedTuple, Optional, Sequence, TYPE_CHECKING, Tuple, Union
 
-from . import KIND, Error, Module, Stopped, _tool
-from .counts import ENOUGH, Counted, Writer
+from . import KIND, Error, Instance, Module, Site, Stopped, _tool, wasm
+from .counts import ENOUGH, Counted, Counting, Found, Writer
+
+if TYPE_CHECKING:
+    from .tree import Node
 
 
 SLOWER, SPARE = 1024, 10_000_000                        # with a call tree, units for each of the guest's, and beside these
 
 
-def room_for(used):
+def room_for(used: int) -> int:
     """The fuel of a run with a call tree, of a guest that uses so many units: a guest chooses how many siblings each call is looked for among."""
     return min(SLOWER * used + SPARE, ENOUGH)
 
@@ -19,8 +25,8 @@ def room_for(used):
 class Ran(NamedTuple):
     """How a run ended, its result, its reply, its units, and the sentence on one that did not return."""
 
-    ending: str
-    answer: Optional[int]
+    ending: Optional[str]
+    answer: Union[None, int, Tuple[int, ...]]
     reply: bytes
     used: int
     told: Optional[str]
@@ -31,7 +37,7 @@ PROBE = bytes.fromhex("0061736d010000000104016000000302010007050101660000" "0a0a
 
 
 @functools.lru_cache(maxsize=None)
-def counts_decoded():
+def counts_decoded() -> bool:
     """Whether this library counts the `end` of an `if` without `else` as two instructions of a site."""
     with Module(PROBE).instance() as it:
         try:
@@ -41,13 +47,13 @@ def counts_decoded():
         return it.stop()[0][1] == 4
 
 
-def instruction_of(module, site):
+def instruction_of(module: wasm.Module, site: Tuple[int, int]) -> int:
     """The number of the instruction in its function, as it is written, of a site that `stop` returns."""
     function, operation = site
     return module.bodies[function].decoded[operation] if counts_decoded() else operation
 
 
-def byte_of(module, site):
+def byte_of(module: wasm.Module, site: Tuple[int, int]) -> int:
     """The byte in the file of a site that `stop` returns."""
     return module.bodies[site[0]].ops[instruction_of(module, site)][0]
 
@@ -55,21 +61,20 @@ def byte_of(module, site):
 class Call:
     """An exported function, called with numbers on a new instance."""
 
-    can_be_sampled = True
     with_start = False                                  # whether it includes the units of the start function
     most_nodes = 32768, 8192, 1024                      # of a call tree: fewer, if the guest lacks the memory beside it
-    kept_calls = None                                   # a backtrace of so many calls may lack others; None: it is always complete
+    kept_calls: Optional[int] = None                    # a backtrace of so many calls may lack others; None: it is always complete
 
-    def __init__(self, data, host, name, args, depth=64, fuel=ENOUGH):
+    def __init__(self, data: bytes, host: Module, name: str, args: Tuple[int, ...], depth: int = 64, fuel: int = ENOUGH) -> None:
         self.data, self.host, self.name, self.args, self.depth, self.fuel, self.given = data, host, name, args, depth, fuel, b""
 
-    def __str__(self):
+    def __str__(self) -> str:
         return f"{self.name}({', '.join(map(str, self.args))})"
 
-    def _fresh(self):
+    def _fresh(self) -> Instance:
         return self.host.instance(fuel=ENOUGH, depth=self.depth)
 
-    def run(self):
+    def run(self) -> Ran:
         """Runs the unmodified guest."""
         with self._fresh() as it:
             try:
@@ -78,32 +83,34 @@ class Call:
                 told = _tool.ended(self, why.ending, why.trap, why.used, it.stop_told(self.data), self.depth)
                 return Ran(why.ending, None, b"", why.used, told)
 
-    def counted(self, counted, fuel=None):
+    def counted(self, counted: Counting[Found], fuel: Optional[int] = None) -> Tuple[Ran, Found]:
         """Runs the guest with counters, and returns what they read, too."""
         with counted.fresh(self.given, min(self.depth + 1, 128)) as it:
             before = None if self.with_start else counted.read(it)
             counted.begin(it, self.with_start)
+            ending: Optional[str]
             try:
                 answer, ending = it.call(self.name, *self.args, fuel=fuel or min(32 * self.fuel, ENOUGH), depth=min(self.depth + 1, 128)), "done"
             except Stopped as why:
                 answer, ending = None, why.ending
             return Ran(ending, answer, counted.reply(it) if ending == "done" else b"", it.used, None), counted.read(it, before)
 
-    def treed(self, most, most_nodes, used):
+    def treed(self, most: int, most_nodes: int, used: int) -> Tuple[Ran, List[int], List[Node]]:
         """Runs the guest, which uses so many units, with a counted call tree of so many nodes, up to `most` units: how it ended, the counts of its
         blocks, and its nodes."""
         from .tree import Blocks, Tree                  # (which imports this module)
         tree, fuel = Tree(self.data, most, most_nodes), room_for(used)
         ended, (counts, nodes) = self.counted(tree, fuel)
         if tree.writer.only:
-            ended, counts = self.counted(Blocks(self.data, most) if most else Counted(self.data), fuel)
+            blocks: Counted = Blocks(self.data, most) if most else Counted(self.data)
+            ended, counts = self.counted(blocks, fuel)
         return ended, counts, nodes
 
-    def backtrace(self):
+    def backtrace(self) -> List[Site]:
         """The backtrace of a run that stopped, innermost first, as (function, instruction)."""
         return self._path_at(self.fuel)[0]
 
-    def _path_at(self, fuel):
+    def _path_at(self, fuel: int) -> Tuple[List[Site], int]:
         """The backtrace of a run with so much fuel, and its units."""
         with self._fresh() as it:
             try:
@@ -112,7 +119,7 @@ class Call:
                 pass
             return it.stop(), it.used
 
-    def _paths(self, each):
+    def _paths(self, each: int) -> List[List[Site]]:
         """The backtraces of one run in slices. Raises Error if the library has none for a paused call."""
         with self._fresh() as it:
             call, found, units = it.begin(self.name, *self.args, fuel=self.fuel, depth=self.depth), [], max(each // 2, 1)
@@ -121,7 +128,7 @@ class Call:
                 units = each
             return found
 
-    def sampled(self, count, threads):
+    def sampled(self, count: int, threads: int) -> List[List[Site]]:
         """The backtraces at `count` points of a run, at equal distances in fuel. One run in slices, if the library has the backtrace of a paused
         call; else a run for each, with so much fuel that it stops there."""
         if not count:
@@ -142,41 +149,42 @@ class Request(Call):
     with_start = True
     kept_calls = 17
 
-    def __init__(self, data, host, op, given, depth=64, fuel=ENOUGH):
+    def __init__(self, data: bytes, host: Module, op: int, given: bytes, depth: int = 64, fuel: int = ENOUGH) -> None:
         super().__init__(data, host, "uv_work", (op,), depth, fuel)
-        self.given, self._plain = given, None
+        self.given = given
+        self._plain: Optional[Counted] = None
         if not host.shape().work:
             raise _tool.Failed("the module exports no uv_work: give --call", 2)
 
-    def __str__(self):
+    def __str__(self) -> str:
         return f"uv_work({self.args[0]}) on {len(self.given)} bytes"
 
-    def _fresh(self):
-        return self._plain.fresh(self.given, self.depth)
+    def _fresh(self) -> Instance:
+        return self._plain.fresh(self.given, self.depth) if self._plain else super()._fresh()
 
-    def backtrace(self):
+    def backtrace(self) -> List[Site]:
         with self.host.job(self.args[0], self.given, fuel=self.fuel, depth=self.depth) as job:
             return job.run().stop()
 
-    def sampled(self, count, threads):
+    def sampled(self, count: int, threads: int) -> List[List[Site]]:
         try:
             self._plain = Counted(self.data, (Writer.NONE,))
         except (_tool.Failed, Error):                   # (it does not fit: the 17 calls of a job, then)
             self._plain = None
         return super().sampled(count, threads)
 
-    def _path_at(self, fuel):
+    def _path_at(self, fuel: int) -> Tuple[List[Site], int]:
         if self._plain:
             return super()._path_at(fuel)
         with self.host.job(self.args[0], self.given, fuel=fuel, depth=self.depth) as job:
             return job.run().stop(), job.about().used
 
-    def _paths(self, each):
+    def _paths(self, each: int) -> List[List[Site]]:
         if self._plain:
             return super()._paths(each)
         raise Error(KIND)
 
-    def run(self):
+    def run(self) -> Ran:
         with self.host.job(self.args[0], self.given, fuel=self.fuel, depth=self.depth) as job:
             reply = job.run().reply()
             if reply.outcome == "done":
@@ -185,7 +193,7 @@ class Request(Call):
             return Ran(reply.outcome, None, b"", reply.used, told)
 
 
-def add_words(parser):
+def add_words(parser: argparse.ArgumentParser) -> None:
     parser.add_argument("guest", metavar="GUEST", help="the module; with DWARF, its lines are reported too")
     parser.add_argument("op", metavar="OP", nargs="?", type=int, default=0, help="the argument of uv_work (0)")
     parser.add_argument("--call", metavar="NAME[,NUMBER..]", help="call this export on an instance instead of uv_work")
@@ -194,7 +202,7 @@ def add_words(parser):
     parser.add_argument("--debug", metavar="FILE", help="the module with DWARF, if GUEST was stripped or lowered")
 
 
-def of_words(given, data, host, requests):
+def of_words(given: argparse.Namespace, data: bytes, host: Module, requests: Iterable[bytes]) -> Sequence[Call]:
     """The runs that the arguments describe: a call, or one for each request."""
     if given.call is None:
         return [Request(data, host, given.op, it, given.depth, given.fuel) for it in requests]

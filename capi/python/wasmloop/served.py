@@ -10,13 +10,16 @@ The loop runs in slices between other tasks, its work requests on threads. `emit
 guest has emitted 1,024 values that nobody took waits until they are taken. Leaving the block ends all: requests that wait get Closed.
 """
 
+from __future__ import annotations
+
 import asyncio
 import collections
 import concurrent.futures
 import threading
 import time
+from typing import AsyncIterator, Callable, Deque, Iterable, List, Optional, Set, Tuple
 
-from . import DEPTH, ENTERED, FOREVER, OVER, RAN, TRAP, Loop
+from . import DEPTH, ENTERED, FOREVER, OVER, RAN, TRAP, Job, Loop, Module
 
 UNITS, WORK_UNITS = 3_000, 100_000                      # of a slice of a callback, and of a work request
 MOST_EMITTED = 1024                                     # so many values wait to be taken; then the loop waits
@@ -36,34 +39,36 @@ class Closed(Exception):
 class Served:
     """A loop of a module. The words are Loop's."""
 
-    def __init__(self, module, **limits):
+    def __init__(self, module: Module, **limits: int) -> None:
         self._module, self._limits, self._closed = module, limits, False
 
-    async def __aenter__(self):
-        self._loop, self._wake, self._later = Loop(self._module, **self._limits), asyncio.Event(), []
-        self._out, self._some, self._taken = collections.deque(), asyncio.Event(), asyncio.Event()
-        self._jobs, self._began, self._stop = set(), time.monotonic(), threading.Event()
+    async def __aenter__(self) -> Served:
+        self._loop, self._wake, self._some, self._taken = Loop(self._module, **self._limits), asyncio.Event(), asyncio.Event(), asyncio.Event()
+        self._later: List[Tuple[Callable[[], object], Optional[asyncio.Future[int]]]] = []
+        self._out: Deque[int] = collections.deque()
+        self._jobs: Set[Optional[asyncio.Task[None]]] = set()
+        self._began, self._stop = time.monotonic(), threading.Event()
         self._pool = concurrent.futures.ThreadPoolExecutor(THREADS)
         self._task = asyncio.create_task(self._serve())
         return self
 
-    async def __aexit__(self, *_):
+    async def __aexit__(self, *_: object) -> None:
         self._task.cancel()
         await asyncio.gather(self._task, return_exceptions=True)
         self._pool.shutdown(wait=False)                 # nothing runs there any more
         self._loop.close()
 
-    def send(self, number):
+    def send(self, number: int) -> None:
         """Sends to the guest's async of this number, counted from 0."""
         if not 0 <= number < 16:
             raise ValueError(f"the number is {number}; an async's is 0 to 15")
         self._soon(lambda: self._loop.send(number))
 
-    async def request(self, op, data=b""):
+    async def request(self, op: int, data: bytes = b"") -> int:
         """Submits a work request. Returns its number, above 0, or an error of queue_work."""
-        answer = asyncio.get_running_loop().create_future()
+        answer: asyncio.Future[int] = asyncio.get_running_loop().create_future()
 
-        def act():
+        def act() -> None:
             if answer.done():
                 return
             try:
@@ -74,7 +79,7 @@ class Served:
         self._soon(act, answer)
         return await answer
 
-    async def emits(self):
+    async def emits(self) -> AsyncIterator[int]:
         """The values that the guest emits, for one task."""
         while self._out or not self._closed:
             if self._out:
@@ -87,31 +92,31 @@ class Served:
         if not self._task.cancelled():
             self._task.result()
 
-    def _soon(self, act, answer=None):                  # kept until no callback is paused
+    def _soon(self, act: Callable[[], object], answer: Optional[asyncio.Future[int]] = None) -> None:                  # kept until no callback is paused
         if self._closed:
             raise Closed("the loop is over")
         self._later.append((act, answer))
         self._wake.set()
 
-    def _compute(self, job):                            # on a thread
+    def _compute(self, job: Job) -> None:                            # on a thread
         while not self._stop.is_set() and not job.run_for(WORK_UNITS):
             pass
 
-    async def _run(self, job):
+    async def _run(self, job: Job) -> None:
         await asyncio.get_running_loop().run_in_executor(self._pool, self._compute, job)
         self._jobs.discard(asyncio.current_task())
         if not self._stop.is_set():
             self._later.append((lambda: self._loop.accept(job), None))
             self._wake.set()
 
-    async def _emit(self, values):
+    async def _emit(self, values: Iterable[int]) -> None:
         self._out.extend(values)
         self._some.set()
         while len(self._out) > MOST_EMITTED:
             self._taken.clear()
             await self._taken.wait()
 
-    async def _turn(self):
+    async def _turn(self) -> int:
         """Takes turns until the loop enters its timers phase, is over or has failed."""
         while True:
             turned = self._loop.turn_for(UNITS)
@@ -124,19 +129,19 @@ class Served:
             if did.what != RAN or did.ending:
                 return did.what
 
-    async def _sleep(self, wait):
+    async def _sleep(self, wait: int) -> None:
         try:
             await asyncio.wait_for(self._wake.wait(), None if wait == FOREVER else min(wait, 2**30) / 1000)
         except asyncio.TimeoutError:
             pass
 
-    def _failure(self):
+    def _failure(self) -> Failed:
         did, places = self._loop.turned.did, self._loop.stop_places()
         how = {TRAP: f"trap {did.trap}", DEPTH: "call stack exhausted"}.get(did.ending, "out of fuel")
         where = f", in function {places[0].function}, instruction {places[0].instruction} at byte {places[0].byte}" if places else ""
         return Failed(f"a callback did not return: {how}, after {did.used} units{where}")
 
-    async def _serve(self):
+    async def _serve(self) -> None:
         try:
             while True:
                 self._wake.clear()
@@ -160,4 +165,4 @@ class Served:
                 if answer and not answer.done():
                     answer.set_exception(Closed("the loop is over"))
             self._some.set()
-            await asyncio.gather(*self._jobs, return_exceptions=True)
+            await asyncio.gather(*[it for it in self._jobs if it], return_exceptions=True)

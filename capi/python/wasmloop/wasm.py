@@ -3,7 +3,10 @@
 It reads what `wasmloop check` accepts, and what the debug module of a guest may have beside that.
 """
 
+from __future__ import annotations
+
 import functools
+from typing import Callable, Collection, Dict, Iterator, List, Mapping, Optional, Sequence, Tuple, TypeVar, Union
 
 BLOCK, LOOP, IF, ELSE, END, BR, BR_IF, BR_TABLE, RETURN, CALL, CALL_INDIRECT = 2, 3, 4, 5, 11, 12, 13, 14, 15, 16, 17
 MEMORY_SIZE, MEMORY_GROW = 0x3F, 0x40
@@ -21,17 +24,24 @@ BYTES = {0x43: 4, 0x44: 8}
 WIDE = {**dict.fromkeys(range(8), 0), 8: 2, 9: 1, 10: 2, 11: 1, 12: 2, 13: 1, 14: 2, **dict.fromkeys((15, 16, 17), 1)}
 
 
+# The start, the opcode and the end of an instruction; the least and the most of a memory or a table; module, name, kind, and the type or limits.
+Operation = Tuple[int, int, int]
+Limits = Tuple[int, Optional[int]]
+Import = Tuple[str, str, int, Union[int, Limits, None]]
+Item = TypeVar("Item")
+
+
 class Malformed(Exception):
     """The bytes are not a module that this reader knows."""
 
 
-def shown(name, most=MOST_LETTERS):
+def shown(name: str, most: int = MOST_LETTERS) -> str:
     """A text of a guest as a line can hold it: what can't be printed is escaped, of a long one the first letters stand there."""
     letters = "".join(it if it.isprintable() else it.encode("unicode_escape", "backslashreplace").decode() for it in name[:most])
     return letters if len(name) <= most else f"{letters}.. and {len(name) - most} more letters"
 
 
-def number(data, at):
+def number(data: bytes, at: int) -> Tuple[int, int]:
     """An unsigned LEB128 number, and its end."""
     value = 0
     for place in range(MOST_DIGITS):
@@ -42,49 +52,49 @@ def number(data, at):
     raise Malformed(f"byte {at}: a number in more than {MOST_DIGITS} bytes")
 
 
-def signed(data, at):
+def signed(data: bytes, at: int) -> Tuple[int, int]:
     value, end = number(data, at)
     bits = 7 * (end - at)
     return (value - (1 << bits) if value >> bits - 1 else value), end
 
 
-def u(value):
+def u(value: int) -> bytes:
     """The bytes of an unsigned number."""
     return bytes([value]) if value < 128 else bytes([value & 127 | 128]) + u(value >> 7)
 
 
-def s(value):
+def s(value: int) -> bytes:
     """The bytes of a signed number."""
     return bytes([value & 127]) if -64 <= value < 64 else bytes([value & 127 | 128]) + s(value >> 7)
 
 
-def sized(data):
+def sized(data: bytes) -> bytes:
     return u(len(data)) + data
 
 
-def vec(items):
+def vec(items: Sequence[bytes]) -> bytes:
     return u(len(items)) + b"".join(items)
 
 
-def text(name):
+def text(name: str) -> bytes:
     return sized(name.encode())
 
 
-def i32(value):
+def i32(value: int) -> bytes:
     """The instruction i32.const."""
     return b"\x41" + s((value + (1 << 31)) % (1 << 32) - (1 << 31))
 
 
-def i64(value):
+def i64(value: int) -> bytes:
     return b"\x42" + s((value + (1 << 63)) % (1 << 64) - (1 << 63))
 
 
-def constant(kind, value):
+def constant(kind: int, value: int) -> bytes:
     """A constant expression of that type."""
     return (i32 if kind == I32 else i64)(value) + b"\x0b"
 
 
-def operations(data, at, end):
+def operations(data: bytes, at: int, end: int) -> Iterator[Operation]:
     """The start, the opcode and the end of each instruction."""
     while at < end:
         start, op = at, data[at]
@@ -111,7 +121,7 @@ def operations(data, at, end):
 class Body:
     """A function: `start` is after its size, `code` its first instruction."""
 
-    def __init__(self, data, start, end):
+    def __init__(self, data: bytes, start: int, end: int) -> None:
         self.data, self.start, self.end = data, start, end
         groups, at = number(data, start)
         self.local_count = 0                            # without the parameters
@@ -122,16 +132,17 @@ class Body:
         self.code = at
 
     @functools.cached_property
-    def ops(self):
+    def ops(self) -> List[Operation]:
         try:
             return list(operations(self.data, self.code, self.end))
         except IndexError:
             raise Malformed(f"byte {self.code}: a function that does not end") from None
 
     @functools.cached_property
-    def decoded(self):
+    def decoded(self) -> List[int]:
         """For a library that counts the `end` of an `if` without `else` as two instructions: the index in `ops` of each that it counts."""
-        found, opened = [], []
+        found: List[int] = []
+        opened: List[bool] = []
         for at, (_, op, _) in enumerate(self.ops):
             if op in (BLOCK, LOOP, IF):
                 opened.append(op == IF)
@@ -144,10 +155,11 @@ class Body:
 
 
 class Module:
-    def __init__(self, data):
+    def __init__(self, data: bytes) -> None:
         if data[:8] != b"\0asm\1\0\0\0":
             raise Malformed("not a WebAssembly module")
-        self.data, self.sections, at = data, [], 8
+        self.data, at = data, 8
+        self.sections: List[Tuple[int, int, int]] = []
         try:
             while at < len(data):
                 kind = data[at]
@@ -158,7 +170,7 @@ class Module:
             self.types = self._items(TYPE, self._type)
             self.imports = self._items(IMPORT, self._import)
             self.functions = self._items(FUNCTION, lambda at: number(data, at))
-            self.memory = (self._items(MEMORY, self._limits) or [None])[0]
+            self.memory: Optional[Limits] = next(iter(self._items(MEMORY, self._limits)), None)
             self.exports = self._items(EXPORT, self._export)
             self.bodies = self._items(CODE, self._body)
             self.names = self._names()
@@ -167,29 +179,30 @@ class Module:
         self.imported = [name for _, name, kind, _ in self.imports if kind == 0]
         self.code_start = self.places.get(CODE, (0, 0))[0]
 
-    def _items(self, kind, read):
+    def _items(self, kind: int, read: Callable[[int], Tuple[Item, int]]) -> List[Item]:
         if kind not in self.places:
             return []
         count, at = number(self.data, self.places[kind][0])
-        found = []
+        found: List[Item] = []
         for _ in range(count):
             item, at = read(at)
             found.append(item)
         return found
 
-    def _bytes(self, at):
+    def _bytes(self, at: int) -> Tuple[bytes, int]:
         size, at = number(self.data, at)
         return self.data[at:at + size], at + size
 
-    def _type(self, at):
+    def _type(self, at: int) -> Tuple[Tuple[bytes, bytes], int]:
         params, at = self._bytes(at + 1)
         results, at = self._bytes(at)
         return (params, results), at
 
-    def _import(self, at):
+    def _import(self, at: int) -> Tuple[Import, int]:
         module, at = self._bytes(at)
         name, at = self._bytes(at)
-        kind, about = self.data[at], None
+        kind = self.data[at]
+        about: Union[int, Limits, None] = None
         if kind == 0:
             about, at = number(self.data, at + 1)
         elif kind in (1, 2):
@@ -198,24 +211,24 @@ class Module:
             at += 3
         return (module.decode(), name.decode(), kind, about), at
 
-    def _limits(self, at):
+    def _limits(self, at: int) -> Tuple[Limits, int]:
         flags = self.data[at]
         least, at = number(self.data, at + 1)
-        most = None
+        most: Optional[int] = None
         if flags & 1:
             most, at = number(self.data, at)
         return (least, most), at
 
-    def globals(self):
+    def globals(self) -> List[Tuple[int, int, int]]:
         """The type, the mutability and the initial value of each global that it defines. For accepted modules alone."""
-        def read(at):
+        def read(at: int) -> Tuple[Tuple[int, int, int], int]:
             value, end = signed(self.data, at + 3)
             return (self.data[at], self.data[at + 1], value), end + 1
         return self._items(GLOBAL, read)
 
-    def elements(self):
+    def elements(self) -> List[Tuple[bytes, List[int]]]:
         """For each segment of the table its bytes before the functions, and the functions. For accepted modules alone."""
-        def read(at):
+        def read(at: int) -> Tuple[Tuple[bytes, List[int]], int]:
             _, body = number(self.data, at)
             body = next(end for _, op, end in operations(self.data, body, len(self.data)) if op == END)
             count, end = number(self.data, body)
@@ -226,17 +239,17 @@ class Module:
             return (self.data[at:body], found), end
         return self._items(ELEMENT, read)
 
-    def _export(self, at):
+    def _export(self, at: int) -> Tuple[Tuple[str, int, int], int]:
         name, at = self._bytes(at)
         kind = self.data[at]
         index, at = number(self.data, at + 1)
         return (name.decode(), kind, index), at
 
-    def _body(self, at):
+    def _body(self, at: int) -> Tuple[Body, int]:
         size, at = number(self.data, at)
         return Body(self.data, at, at + size), at + size
 
-    def custom(self, wanted):
+    def custom(self, wanted: str) -> Optional[Tuple[int, int]]:
         """The start and the end of the contents of a custom section, or None."""
         for kind, start, end in self.sections:
             if kind == 0 and start < end:
@@ -245,14 +258,14 @@ class Module:
                     return at, end
         return None
 
-    def _names(self):
+    def _names(self) -> Dict[int, str]:
         at, end = self.custom("name") or (0, 0)
         while at < end:
             sub = self.data[at]
             size, at = number(self.data, at + 1)
             if sub == 1:
                 count, here = number(self.data, at)
-                found = {}
+                found: Dict[int, str] = {}
                 for _ in range(count):
                     index, here = number(self.data, here)
                     name, here = self._bytes(here)
@@ -261,17 +274,17 @@ class Module:
             at += size
         return {}
 
-    def name(self, defined):
+    def name(self, defined: int) -> str:
         """The name of a function, by its index without the imports, as wasmloop_stop counts."""
         index = defined + len(self.imported)
         exported = next((name for name, kind, it in self.exports if kind == 0 and it == index), None)
         return shown(self.names.get(index) or exported or f"function {index}")
 
-    def export_bytes(self):
+    def export_bytes(self) -> List[bytes]:
         """The bytes of each export, for a new export section."""
         return [text(name) + bytes([kind]) + u(index) for name, kind, index in self.exports]
 
-    def written(self, replaced, dropped=()):
+    def written(self, replaced: Mapping[int, bytes], dropped: Collection[int] = ()) -> bytes:
         """The module with these sections instead of its own or added, without those of `dropped`."""
         parts = {kind: self.data[start:end] for kind, start, end in self.sections if kind and kind not in dropped}
         parts.update(replaced)

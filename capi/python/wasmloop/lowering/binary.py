@@ -1,5 +1,9 @@
 """The binary format: numbers, lists, types, and what stands behind each opcode."""
 
+from __future__ import annotations
+
+from typing import Any, Callable, Iterator, List, Sequence, Tuple, TypeVar
+
 I32, I64, F32, F64 = 0x7F, 0x7E, 0x7D, 0x7C
 LOWERED = {I32: I32, I64: I64, F32: I32, F64: I64}
 FUNCTIONS, NO_FUNCTIONS, EMPTY_BLOCK, END = 0x70, 0x73, 0x40, 0x0B
@@ -27,24 +31,30 @@ OTHERS_OF_PREFIX = {12: "table.init", 14: "table.copy", 15: "table.grow", 16: "t
 OTHER_TYPES = {0x7B: SIMD, 0x70: REFERENCES, 0x6F: REFERENCES, 0x69: EXCEPTIONS, 0x63: REFERENCES, 0x64: REFERENCES}
 
 
+Item = TypeVar("Item")
+Kind = Tuple[bytes, bytes]                              # of a function: what it takes and what it leaves
+Declared = List[Tuple[int, int]]                        # locals: how many, of which type
+Behind = Any                                            # what stands behind an opcode, by the opcode: a number, a tuple of them, or None
+
+
 class Refused(Exception):
     """The text says what can't be rewritten."""
 
 
 class Reader:
-    def __init__(self, data, at=0):
+    def __init__(self, data: bytes, at: int = 0) -> None:
         self.data, self.at, self.end = data, at, len(data)
 
-    def byte(self):
+    def byte(self) -> int:
         return self.take(1)[0]
 
-    def take(self, count):
+    def take(self, count: int) -> bytes:
         if self.at + count > self.end:
             raise Refused("the bytes end early")
         self.at += count
         return self.data[self.at - count:self.at]
 
-    def leb(self, bits, signed):
+    def leb(self, bits: int, signed: bool) -> int:
         """A number of so many bits, in as many bytes as the format allows."""
         value = shift = 0
         byte = 128
@@ -61,63 +71,65 @@ class Reader:
             raise Refused(f"a number of more than {bits} bits")
         return value
 
-    def u(self):
+    def u(self) -> int:
         return self.leb(32, False)
 
-    def s(self, bits):
+    def s(self, bits: int) -> int:
         return self.leb(bits, True)
 
-    def ended(self, what):
+    def ended(self, what: str) -> None:
         if self.at != self.end:
             raise Refused(f"{what} with bytes left over")
 
-    def vec(self, item):
+    def vec(self, item: Callable[[], Item]) -> List[Item]:
         return [item() for _ in range(self.u())]
 
-    def name(self):
+    def name(self) -> bytes:
         return self.take(self.u())
 
-    def text(self):
+    def text(self) -> str:
         try:
             return self.name().decode()
         except UnicodeDecodeError:
             raise Refused("a name that is not UTF-8") from None
 
 
-def u(number):
+def u(number: int) -> bytes:
     return bytes([number]) if number < 128 else bytes([number & 127 | 128]) + u(number >> 7)
 
 
-def s(number):
+def s(number: int) -> bytes:
     return bytes([number & 127]) if -64 <= number < 64 else bytes([number & 127 | 128]) + s(number >> 7)
 
 
-def vec(items):
+def vec(items: Sequence[bytes]) -> bytes:
     return u(len(items)) + b"".join(items)
 
 
-def sized(data):
+def sized(data: bytes) -> bytes:
     return u(len(data)) + data
 
 
-def constant(kind, value):
+def constant(kind: int, value: int) -> bytes:
     return bytes([I32_CONST if LOWERED[kind] == I32 else I64_CONST]) + s(value)
 
 
-def value_type(byte):
+def value_type(byte: int) -> int:
     if byte not in LOWERED:
         raise Refused(OTHER_TYPES.get(byte, f"the value type {byte:#x}"))
     return byte
 
 
-def lowered(kinds):
-    """Types of values, or a type of functions, with integers in the place of floats."""
-    if isinstance(kinds, tuple):
-        return tuple(map(lowered, kinds))
+def lowered(kinds: bytes) -> bytes:
+    """Types of values, with integers in the place of floats."""
     return bytes(LOWERED[kind] for kind in kinds)
 
 
-def memory_argument(r):
+def lowered_type(kind: Kind) -> Kind:
+    return lowered(kind[0]), lowered(kind[1])
+
+
+def memory_argument(r: Reader) -> Tuple[int, int]:
     """Alignment and offset; a module has one memory, whose number newer tools may write here."""
     flags = r.u()
     if flags & 64 and r.u() != 0:
@@ -125,7 +137,7 @@ def memory_argument(r):
     return flags & ~64, r.u()
 
 
-def behind_prefix(r):
+def behind_prefix(r: Reader) -> Tuple[int, ...]:
     """The number behind 0xfc, and the indices behind that."""
     number = r.u()
     if number in OTHERS_OF_PREFIX or number not in INDICES and number not in SATURATING:
@@ -133,7 +145,7 @@ def behind_prefix(r):
     return (number, *(r.u() for _ in range(INDICES.get(number, 0))))
 
 
-def immediate(r, op):
+def immediate(r: Reader, op: int) -> Behind:
     """What stands behind an opcode: a number, a tuple of them, or None."""
     if op in (*BLOCKS, I32_CONST, I64_CONST):
         return r.s(33 if op in BLOCKS else 32 if op == I32_CONST else 64)
@@ -156,7 +168,7 @@ def immediate(r, op):
     return None
 
 
-def shortest(op, written, behind):
+def shortest(op: int, written: bytes, behind: Behind) -> bytes:
     """The operation with each number in as few bytes as it needs."""
     if op in (*BLOCKS, I32_CONST, I64_CONST):
         return bytes([op]) + s(behind)
@@ -171,7 +183,7 @@ def shortest(op, written, behind):
     return written
 
 
-def operations(body):
+def operations(body: bytes) -> Iterator[Tuple[int, bytes, Behind]]:
     """Each operation of an expression: its opcode, its bytes, what stands behind the opcode."""
     r = Reader(body)
     while r.at < r.end:

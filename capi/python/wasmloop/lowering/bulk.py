@@ -4,9 +4,13 @@ Each looks first whether all of it lies in the memory, and traps before a byte i
 have. Eight bytes are moved at a time, four times in a row while there are so many. What is left at an end is moved by an
 access that overlaps what has been moved, and that loads before anything is stored, so copies that overlap are right.
 """
-import struct
 
-from .binary import I32, I64, s, u, vec
+from __future__ import annotations
+
+import struct
+from typing import Mapping, Optional, Sequence, Tuple
+
+from .binary import I32, I64, Kind, s, u, vec
 
 PLAIN = {"block": b"\x02\x40", "loop": b"\x03\x40", "if": b"\x04\x40", "if-i64": b"\x04\x7e", "else": b"\x05", "end": b"\x0b",
          "unreachable": b"\0", "return": b"\x0f", "drop": b"\x1a", "select": b"\x1b", "size": b"\x3f\0",
@@ -27,7 +31,10 @@ FOUR_UP = "".join(f"get to get from i64.load {k} i64.store {k} " for k in (0, 8,
 FOUR_DOWN = "".join(f"get to get from i64.load {k} i64.store {k} " for k in (24, 16, 8, 0))
 
 
-def by(number, *names):
+Added = Tuple[Kind, bytes]                           # its type and its body
+
+
+def by(number: int, *names: str) -> str:
     """The variables are so much more."""
     return " ".join(f"get {name} i32 {number} i32.add set {name}" for name in names)
 
@@ -118,7 +125,7 @@ INIT = INIT_BOUNDS + f"""
 end"""
 
 
-def assembled(text, variables):
+def assembled(text: str, variables: Mapping[str, int]) -> bytes:
     """The bytes of a text, in which variables stand for their numbers."""
     rest, out = iter(text.split()), b""
     for word in rest:
@@ -135,32 +142,32 @@ def assembled(text, variables):
     return out
 
 
-def function(text, parameters, *variables):
+def function(text: str, parameters: Sequence[str], *variables: Tuple[str, int]) -> Added:
     """Type and body of a function whose parameters are numbers of 32 bits; variables are pairs of name and type."""
     names = {name: i for i, name in enumerate([*parameters, *(name for name, _ in variables)])}
     declared = vec([u(1) + bytes([kind]) for _, kind in variables])
     return (bytes([I32] * len(parameters)), b""), declared + assembled(text, names)
 
 
-def copy():
+def copy() -> Added:
     return function(COPY, ("to", "from", "count"), ("end", I32), ("half", I32))
 
 
-def fill():
+def fill() -> Added:
     return function(FILL, ("to", "value", "count"), ("end", I32), ("eight", I64))
 
 
-def init(length, data):
+def init(length: str, data: Optional[int]) -> Added:
     """From a passive segment: `length` are the words that tell its length, `data` is the function of its bytes or None."""
     text = (INIT if data is not None else INIT_BOUNDS + "end").replace("LENGTH", length).replace("DATA", str(data))
     return function(text, ("to", "from", "count"))
 
 
-def data_of(data):
+def data_of(data: bytes) -> Added:
     """A segment's bytes as a function: of i the eight bytes from 8 i on, found by halving."""
     eights = struct.unpack(f"<{(len(data) + 7) // 8}q", data + bytes(-len(data) % 8))
 
-    def tree(low, high):
+    def tree(low: int, high: int) -> str:
         if high - low == 1:
             return f"i64 {eights[low]} "
         middle = (low + high) // 2

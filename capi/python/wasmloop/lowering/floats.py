@@ -1,4 +1,9 @@
 """Which function of soft.c stands for which instruction, and what needs none."""
+
+from __future__ import annotations
+
+from typing import Dict, Tuple, Union
+
 from .binary import I32, I64, PREFIX, constant
 
 REINTERPRET = range(0xBC, 0xC0)
@@ -7,9 +12,9 @@ SIGNS = {0x8B: constant(I32, 0x7FFFFFFF) + b"\x71", 0x8C: constant(I32, -0x80000
          0x99: constant(I64, (1 << 63) - 1) + b"\x83", 0x9A: constant(I64, -1 << 63) + b"\x85"}
 
 
-def soft_names():
+def soft_names() -> Dict[Union[int, Tuple[int, int]], str]:
     """The names of soft.c's functions by the instruction: its opcode, or 0xFC and the number behind it."""
-    names = {}
+    names: Dict[Union[int, Tuple[int, int]], str] = {}
     ordered = "eq ne lt gt le ge".split()
     arithmetic = "abs neg ceil floor trunc nearest sqrt add sub mul div min max copysign".split()
     for kind, comparing, computing in (("f32", 0x5B, 0x8B), ("f64", 0x61, 0x99)):

@@ -1,8 +1,12 @@
 """The parts of a module, read in the forms of WebAssembly 2.0 and kept in those of 1.0."""
+
+from __future__ import annotations
+
 import collections
+from typing import Callable, Counter, Dict, List, Optional, Sequence, Tuple
 
 from .binary import (END, EXCEPTIONS, F32, F32_CONST, F64, F64_CONST, FUNCTIONS, GLOBAL_GET, I32, I32_CONST, I64, I64_CONST,
-                     LOWERED, NO_FUNCTIONS, OTHERS, REF_FUNC, REF_NULL, REFERENCES, THREADS, Reader, Refused, constant, immediate, u,
+                     LOWERED, NO_FUNCTIONS, OTHERS, REF_FUNC, REF_NULL, REFERENCES, THREADS, Declared, Item, Kind, Reader, Refused, constant, immediate, u,
                      value_type)
 
 SECTIONS = dict(zip("types imports functions tables memories globals exports start elements code data".split(),
@@ -16,7 +20,7 @@ SUMS = {0x6A: (I32, int.__add__), 0x6B: (I32, int.__sub__), 0x6C: (I32, int.__mu
         0x7C: (I64, int.__add__), 0x7D: (I64, int.__sub__), 0x7E: (I64, int.__mul__)}
 
 
-def wrapped(kind, value):
+def wrapped(kind: int, value: int) -> int:
     half = 1 << (31 if kind == I32 else 63)
     return (value + half) % (2 * half) - half
 
@@ -24,11 +28,13 @@ def wrapped(kind, value):
 class Module:
     """Bodies are pairs of the locals and the operations' bytes, active segments pairs of offset and contents. Types are as they came."""
 
-    def __init__(self, data):
+    def __init__(self, data: bytes) -> None:
         if data[:4] != b"\0asm" or data[4:8] != b"\1\0\0\0":
             raise Refused("not a WebAssembly module" + ", but a component" * (data[4:8] == b"\x0d\0\1\0"))
-        self.sections, self.names, self.customs = {}, [], []
-        self.changed = collections.Counter()           # what was there in a form that WebAssembly 1.0 hasn't
+        self.sections: Dict[int, bytes] = {}
+        self.names: List[Tuple[int, bytes]] = []
+        self.customs: List[str] = []
+        self.changed: Counter[str] = collections.Counter()  # what was there in a form that WebAssembly 1.0 hasn't
         r, place = Reader(data, 8), 0
         while r.at < r.end:
             number, part = r.byte(), r.name()
@@ -48,40 +54,42 @@ class Module:
         for what, there in ("table", self.tables), ("memory", self.memories):
             if len(there) > 1:
                 raise Refused(f"more than one {what}")
-        self.values, self.globals = [], []
+        self.values: List[Tuple[int, int]] = []
+        self.globals: List[bytes] = []
         self.read("globals", self.variable)
         for kind in (*self.functions, *(kind for _, _, kind in self.imports)):
             self.must_have("type", kind)
         self.exports = self.read("exports", self.exported)
-        self.elements = []
+        self.elements: List[Tuple[int, List[int]]] = []
         self.element_count = len(self.read("elements", self.element_segment))
         self.bodies = self.read("code", self.body)
-        self.data, self.passive = [], {}
+        self.data: List[Tuple[int, bytes]] = []
+        self.passive: Dict[int, bytes] = {}
         self.data_count = len(self.read("data", self.data_segment))
         self.counted = self.single(DATA_COUNT)         # memory.init and data.drop need it
         if self.counted not in (None, self.data_count) or len(self.bodies) != len(self.functions):
             raise Refused("a count of functions or data segments that is wrong")
         self.start = self.single(SECTIONS["start"])
 
-    def must_have(self, what, index):
+    def must_have(self, what: str, index: int) -> None:
         """Looks whether it is there: what is put in behind the module's own must not stand for it."""
         there = {"type": len(self.types), "function": len(self.imports) + len(self.functions), "table": len(self.tables),
                  "memory": len(self.memories), "global": len(self.globals)}
         if index >= there[what]:
             raise Refused(f"a {what} {index} that isn't there")
 
-    def type_of(self, function):
+    def type_of(self, function: int) -> int:
         """The number of its type."""
         first = len(self.imports)
         return self.imports[function][2] if function < first else self.functions[function - first]
 
-    def read(self, section, item):
+    def read(self, section: str, item: Callable[[Reader], Item]) -> List[Item]:
         r = Reader(self.sections.get(SECTIONS[section], b"\0"))
         items = r.vec(lambda: item(r))
         r.ended("a section")
         return items
 
-    def single(self, section):
+    def single(self, section: int) -> Optional[int]:
         """The number that a section has, or None."""
         if section not in self.sections:
             return None
@@ -90,7 +98,7 @@ class Module:
         r.ended("a section")
         return number
 
-    def custom(self, r):
+    def custom(self, r: Reader) -> None:
         name = r.text()
         self.customs.append(name)
         if name == "linking":
@@ -104,43 +112,44 @@ class Module:
             self.names = []
 
     @staticmethod
-    def type(r):
+    def type(r: Reader) -> Kind:
         if r.byte() != 0x60:
             raise Refused("a type that is no function's")
-        return tuple(bytes(value_type(t) for t in r.name()) for _ in range(2))
+        return bytes(value_type(t) for t in r.name()), bytes(value_type(t) for t in r.name())
 
     @staticmethod
-    def imported(r):
+    def imported(r: Reader) -> Tuple[str, str, int]:
         module, field, kind = r.text(), r.text(), r.byte()
         if kind != 0:
             raise Refused(f'the import "{module}" "{field}", which is no function')
         return module, field, r.u()
 
-    def exported(self, r):
+    def exported(self, r: Reader) -> Tuple[bytes, int, int]:
         name, kind, index = r.name(), r.byte(), r.u()
         if kind >= len(EXPORTED):
             raise Refused(f"an export of the kind {kind}")
         self.must_have(EXPORTED[kind], index)
         return name, kind, index
 
-    def table(self, r):
+    def table(self, r: Reader) -> bytes:
         if r.byte() != FUNCTIONS:
             raise Refused(REFERENCES)
         return bytes([FUNCTIONS]) + self.limits(r)
 
-    def memory(self, r):
+    def memory(self, r: Reader) -> bytes:
         return self.limits(r)
 
     @staticmethod
-    def limits(r):
+    def limits(r: Reader) -> bytes:
         flags = r.byte()
         if flags > 1:
             raise Refused(THREADS if flags in (2, 3) else f"limits of the kind {flags} (64 bits, or pages of another size)")
         return bytes([flags]) + u(r.u()) + (u(r.u()) if flags else b"")
 
-    def value(self, r, wanted):
+    def value(self, r: Reader, wanted: int) -> int:
         """The number that a constant expression of that type gives; of a float its bits."""
-        stack, steps = [], 0
+        stack: List[Tuple[Optional[int], int]] = []
+        steps = 0
         while (op := r.byte()) != END:
             steps += 1
             behind = immediate(r, op)
@@ -158,7 +167,7 @@ class Module:
         self.changed["constant expressions of several operations"] += steps > 1
         return stack[0][1]
 
-    def variable(self, r):
+    def variable(self, r: Reader) -> None:
         kind, mutable = r.byte(), r.byte()
         if mutable > 1:
             raise Refused(f"a global of the kind {mutable}")
@@ -166,9 +175,10 @@ class Module:
         self.globals.append(bytes([LOWERED[value_type(kind)], mutable]) + constant(kind, value) + b"\x0b")
         self.values.append((kind, value))
 
-    def offset(self, r, what):
+    def offset(self, r: Reader, what: str) -> Tuple[int, Optional[int]]:
         """Where an active segment begins, or None."""
-        flags, at = r.u(), None
+        flags = r.u()
+        at: Optional[int] = None
         if flags > (EXPLICIT if what == "memory" else PASSIVE | EXPLICIT | EXPRESSIONS):
             raise Refused(f"a segment of the kind {flags}")
         if flags & EXPLICIT and not flags & PASSIVE and r.u() != 0:
@@ -179,11 +189,11 @@ class Module:
             self.changed[f"segments of the {what} in forms of WebAssembly 2.0"] += 1
         return flags, at
 
-    def element_segment(self, r):
+    def element_segment(self, r: Reader) -> None:
         flags, at = self.offset(r, "table")
         if flags & (PASSIVE | EXPLICIT) and r.byte() != (FUNCTIONS if flags & EXPRESSIONS else 0):
             raise Refused(REFERENCES)
-        functions = r.vec(lambda: self.element(r) if flags & EXPRESSIONS else r.u())
+        functions: List[Optional[int]] = r.vec(lambda: self.element(r) if flags & EXPRESSIONS else r.u())
         for function in functions:
             if function is not None:
                 self.must_have("function", function)
@@ -191,7 +201,7 @@ class Module:
             return
         if None in functions:
             self.look_at_nulls(at, functions)
-        run = []
+        run: List[int] = []
         for i, function in enumerate(functions + [None]):
             if function is not None:
                 run.append(function)
@@ -200,20 +210,20 @@ class Module:
                 run = []
 
     @staticmethod
-    def element(r):
+    def element(r: Reader) -> Optional[int]:
         op, behind = r.byte(), r.u()
         if op not in (REF_NULL, REF_FUNC) or op == REF_NULL and behind not in (FUNCTIONS, NO_FUNCTIONS) or r.byte() != END:
             raise Refused(REFERENCES)
         return behind if op == REF_FUNC else None
 
-    def look_at_nulls(self, at, functions):
+    def look_at_nulls(self, at: int, functions: Sequence[Optional[int]]) -> None:
         """A null is left out, which is right where nothing else stands, and where the segment fits."""
         least = Reader(self.tables[0], 2).u() if self.tables else 0
         filled = {a + i for a, those in self.elements for i in range(len(those))}
         if at + len(functions) > least or any(f is None and at + i in filled for i, f in enumerate(functions)):
             raise Refused("a null in an element segment that doesn't fit the table, or over an earlier element")
 
-    def data_segment(self, r):
+    def data_segment(self, r: Reader) -> None:
         flags, at = self.offset(r, "memory")
         if at is None:
             self.passive[len(self.data) + len(self.passive)] = r.name()
@@ -221,7 +231,7 @@ class Module:
             self.data.append((at, r.name()))
 
     @staticmethod
-    def body(r):
+    def body(r: Reader) -> Tuple[Declared, bytes]:
         part = Reader(r.name())
         declared = part.vec(lambda: (part.u(), value_type(part.byte())))
         return declared, part.take(part.end - part.at)

@@ -1,12 +1,17 @@
 """The module that comes out: the imports that stay, its functions, those for setjmp's imports, those that are put in."""
+
+from __future__ import annotations
+
 import collections
+from typing import Counter, Dict, List, Optional, Tuple
 
 from . import bulk, jumps, tables
 from .binary import (BLOCKS, CALL, CALL_INDIRECT, COPY, DROP, ELEM_DROP, EMPTY_BLOCK, F32, F32_CONST, F64, F64_CONST, FILL,
                      GLOBAL_GET, GLOBAL_SET, I32, INIT, MEMORY_ACCESS, PAGES, PREFIX, SELECT, TYPED_SELECT, Refused, constant,
-                     LOWERED, lowered, operations, s, shortest, sized, u, value_type, vec)
+                     LOWERED, Behind, Declared, Kind, lowered_type, operations, s, shortest, sized, u, value_type, vec)
+from .bulk import Added
 from .floats import FLOAT_ACCESS, REINTERPRET, SIGNS, SOFT
-from .module import SECTIONS
+from .module import SECTIONS, Module
 from .validity import Body
 
 FLOATS, LONG = "floating-point instructions", "instructions with a number in more bytes than it needs"
@@ -19,10 +24,10 @@ class Lowering:
     """Old numbers of functions to new ones: imports, then defined, then those for setjmp's imports, then what is put in.
 
     What is put in is asked for by a key, and gets the next free number where it is first asked for: ("soft", its number in
-    SOFT.wasm), ("memory.copy",), ("memory.fill",), ("memory.init", segment), ("data", segment).
+    SOFT.wasm), ("memory.copy", 0), ("memory.fill", 0), ("memory.init", segment), ("data", segment).
     """
 
-    def __init__(self, module, soft):
+    def __init__(self, module: Module, soft: Optional[Module]) -> None:
         self.old, self.soft = module, soft
         self.soft_exports = {n.decode(): i for n, kind, i in soft.exports if kind == 0} if soft else {}
         self.kept = [i for i, (m, _, _) in enumerate(module.imports) if m == "uv"]
@@ -33,32 +38,37 @@ class Lowering:
         self.number = {old: new for new, old in enumerate(self.kept)}
         self.number.update({imports + i: len(self.kept) + i for i in range(defined)})
         self.number.update({old: len(self.kept) + defined + i for i, old in enumerate(self.made)})
-        self.types, self.function_types, self.bodies = [lowered(kind) for kind in module.types], list(module.functions), []
-        self.marks, self.spare = tables.Marks(module), None
-        self.globals, self.lengths, self.added = list(module.globals), {}, {}
-        self.flag = self.new_global(0) if self.made else None
-        self.counts, self.sizes = collections.Counter(module.changed), collections.Counter()
+        self.types, self.function_types = [lowered_type(kind) for kind in module.types], list(module.functions)
+        self.bodies: List[bytes] = []
+        self.marks = tables.Marks(module)
+        self.spare: Optional[int] = None
+        self.globals = list(module.globals)
+        self.lengths: Dict[int, int] = {}
+        self.added: Dict[Tuple[str, int], int] = {}
+        self.flag = self.new_global(0) if self.made else -1
+        self.counts = collections.Counter(module.changed)
+        self.sizes: Counter[str] = collections.Counter()
         self.unwinding, self.through_table = jumps.who_unwinds(module, self.made)
 
-    def new_global(self, value):
+    def new_global(self, value: int) -> int:
         self.globals.append(bytes([I32, 1]) + constant(I32, value) + b"\x0b")
         return len(self.globals) - 1
 
-    def put_in(self, *key):
+    def put_in(self, what: str, index: int = 0) -> int:
         first = len(self.kept) + len(self.old.functions) + len(self.made)
-        return self.added.setdefault(key, first + len(self.added))
+        return self.added.setdefault((what, index), first + len(self.added))
 
-    def call(self, *key):
-        return b"\x10" + u(self.put_in(*key))
+    def call(self, what: str, index: int = 0) -> bytes:
+        return b"\x10" + u(self.put_in(what, index))
 
-    def soft_call(self, name):
+    def soft_call(self, name: str) -> bytes:
         self.counts[FLOATS] += 1
         index = self.soft_exports.get(f"soft.{name}")
         if index is None:
             raise Refused(f"{name}: no such function in SOFT.wasm (--soft)")
         return self.call("soft", index)
 
-    def operation(self, op, written, behind, leave):
+    def operation(self, op: int, written: bytes, behind: Behind, leave: bytes) -> bytes:
         if op in BLOCKS and behind < 0:
             return bytes([op, EMPTY_BLOCK if behind & 127 == EMPTY_BLOCK else LOWERED[value_type(behind & 127)]])
         if op in BLOCKS:
@@ -91,7 +101,7 @@ class Lowering:
         name = SOFT.get((PREFIX, behind[0]) if op == PREFIX else op)
         return self.soft_call(name) if name else self.short(op, written, behind)
 
-    def call_indirect(self, written, behind):
+    def call_indirect(self, written: bytes, behind: Tuple[int, int]) -> bytes:
         kind = self.old.types[behind[0]]
         if not self.marks.of(kind):
             return self.short(CALL_INDIRECT, written, behind)
@@ -99,22 +109,22 @@ class Lowering:
         self.spare = self.first_spare
         return tables.call(self.type_number(self.marks.type(kind)), self.marks.of(kind), self.spare)
 
-    def placed(self, function):
+    def placed(self, function: int) -> int:
         """The number of what the table has for a function."""
         marked = self.marks.of(self.old.types[self.old.type_of(function)])
         return self.put_in("by the table", function) if marked else self.number[function]
 
-    def short(self, op, written, behind):
+    def short(self, op: int, written: bytes, behind: Behind) -> bytes:
         new = shortest(op, written, behind)
         self.counts[LONG] += len(new) < len(written)
         return new
 
     @staticmethod
-    def must_be_first(what, number):
+    def must_be_first(what: str, number: int) -> None:
         if number != 0:
             raise Refused(f"more than one {what}")
 
-    def bulk(self, op, *indices):
+    def bulk(self, op: int, *indices: int) -> bytes:
         if op == ELEM_DROP:                            # nothing is left that could see it
             if indices[0] >= self.old.element_count:
                 raise Refused(f"elem.drop of a segment {indices[0]} that isn't there")
@@ -131,31 +141,32 @@ class Lowering:
             return self.call(BULK[op], indices[0])
         return self.drop(indices[0])
 
-    def drop(self, segment):
+    def drop(self, segment: int) -> bytes:
         if not self.old.passive.get(segment):
             return b""
         return b"\x41\0" + bytes([GLOBAL_SET]) + u(self.length(segment))
 
-    def length(self, segment):
+    def length(self, segment: int) -> int:
         """The global that has the length of a segment, since the segment may be dropped."""
         if segment not in self.lengths:
             self.lengths[segment] = self.new_global(len(self.old.passive[segment]))
         return self.lengths[segment]
 
-    def defined(self, kind, declared, body):
+    def defined(self, kind: int, declared: Declared, body: bytes) -> bytes:
         """A function of the module's own."""
         leave = jumps.leave(self.flag, self.types[kind][1]) if self.made else b""
         self.first_spare, self.spare = len(self.types[kind][0]) + sum(n for n, _ in declared), None
-        walk, code = Body(self.old, kind, declared), []
+        walk = Body(self.old, kind, declared)
+        code: List[bytes] = []
         for op, written, behind in operations(body):
             new = self.operation(op, written, behind, leave)
             walk.operation(op, behind)
             code.append(new)
         walk.ended()
-        spare = [u(1) + bytes([I32])] if self.spare is not None else []
+        spare: List[bytes] = [u(1) + bytes([I32])] if self.spare is not None else []
         return vec([u(n) + bytes([LOWERED[t]]) for n, t in declared] + spare) + b"".join(code)
 
-    def functions(self):
+    def functions(self) -> None:
         for i, (kind, (declared, body)) in enumerate(zip(self.old.functions, self.old.bodies)):
             try:
                 self.bodies.append(self.defined(kind, declared, body))
@@ -171,7 +182,7 @@ class Lowering:
             self.added_function(*list(self.added)[done])
             done += 1
 
-    def made_function(self, field, kind):
+    def made_function(self, field: str, kind: int) -> None:
         """What stands for an import of setjmp's."""
         self.function_types.append(kind)
         parameters, results = self.types[kind]
@@ -186,13 +197,14 @@ class Lowering:
         self.sizes["jumps"] += len(body)
         self.bodies.append(body)
 
-    def type_number(self, kind):
+    def type_number(self, kind: Kind) -> int:
         if kind not in self.types:
             self.types.append(kind)
         return self.types.index(kind)
 
-    def added_function(self, what, index=0):
+    def added_function(self, what: str, index: int = 0) -> None:
         if what == "soft":
+            assert self.soft
             declared, body = self.soft.bodies[index]
             code = b"".join(self.soft_operation(*o) for o in operations(body))
             kind = self.soft.types[self.soft.functions[index]]
@@ -210,31 +222,32 @@ class Lowering:
         self.function_types.append(self.type_number(kind))
         self.bodies.append(body)
 
-    def init(self, segment):
+    def init(self, segment: int) -> Added:
         data = self.old.passive.get(segment)
         if not data:                                   # active, so dropped by now; or empty
             return bulk.init("i32 0", None)
         dropped = segment in self.lengths
         return bulk.init(f"global {self.lengths[segment]}" if dropped else f"i32 {len(data)}", self.put_in("data", segment))
 
-    def soft_operation(self, op, written, behind):
+    def soft_operation(self, op: int, written: bytes, behind: Behind) -> bytes:
         if op in (GLOBAL_GET, GLOBAL_SET, CALL_INDIRECT, *MEMORY_ACCESS, *PAGES) or op == PREFIX and behind[0] >= INIT:
             raise Refused("SOFT.wasm has a function that uses its memory: compile soft.c with -O2")
         return self.call("soft", behind) if op == CALL else written
 
-    def name(self, what, index=0):
+    def name(self, what: str, index: int = 0) -> Optional[str]:
         if what == "soft":
             return next((n for n, i in self.soft_exports.items() if i == index), None)
         return what if what in ("memory.copy", "memory.fill") else f"{what} {index}"
 
-    def names(self):
+    def names(self) -> bytes:
         """The names of functions, those that were put in too."""
         named = {self.number[i]: n for i, n in self.old.names if i in self.number}
-        named.update({new: self.name(*key).encode() for key, new in self.added.items() if self.name(*key)})
+        put_in = ((new, self.name(*key)) for key, new in self.added.items())
+        named.update({new: name.encode() for new, name in put_in if name})
         part = vec([u(i) + sized(n) for i, n in sorted(named.items())])
         return b"\0" + sized(sized(b"name") + b"\1" + sized(part))
 
-    def look_at_floats_outside(self):
+    def look_at_floats_outside(self) -> None:
         """What the host calls and is called by has integers, and must have had them before."""
         for module, field, kind in self.old.imports:
             if module == "uv" and tables.has_floats(self.old.types[kind]):
@@ -243,8 +256,9 @@ class Lowering:
             if kind == 0 and name in ENTRIES and tables.has_floats(self.old.types[self.old.type_of(index)]):
                 raise Refused(f'the export "{name.decode()}", which has floats in its type')
 
-    def module(self):
-        old, parts = self.old, {}
+    def module(self) -> bytes:
+        old = self.old
+        parts: Dict[str, bytes] = {}
         self.look_at_floats_outside()
         for _, functions in old.elements:              # (they get their numbers before the functions that are put in)
             for function in functions:
@@ -269,9 +283,10 @@ class Lowering:
                 out += bytes([number]) + sized(parts[name])
         return out + (self.names() if old.names else b"")
 
-    def told(self):
+    def told(self) -> List[str]:
         """A line for each kind of thing that was rewritten, with what was put in for it."""
-        counts, lines = self.counts, []
+        counts = self.counts
+        lines: List[str] = []
         put_in = collections.Counter(what for what, *_ in self.added)
         if counts[FLOATS]:
             lines.append(f"{counts[FLOATS]} {FLOATS}: added {put_in['soft']} functions of SOFT.wasm, {self.sizes['soft']} bytes")

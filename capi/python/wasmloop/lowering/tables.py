@@ -4,7 +4,15 @@ Two types of functions may become one where floats become integers, and a call t
 type that isn't the only one of its kind gets marks, which are further parameters: a call gives zeros for them, and the table has a
 function that takes them and calls the one that was there.
 """
-from .binary import CALL_INDIRECT, I32, LOWERED, Refused, constant, lowered, operations, u, vec
+
+from __future__ import annotations
+
+from typing import Dict, Set, TYPE_CHECKING
+
+from .binary import CALL_INDIRECT, I32, LOWERED, Kind, Refused, constant, lowered_type, operations, u, vec
+
+if TYPE_CHECKING:
+    from .module import Module
 
 CALLBACK = bytes([I32]), b""                           # what the host calls through the table
 
@@ -12,16 +20,16 @@ CALLBACK = bytes([I32]), b""                           # what the host calls thr
 class Marks:
     """How many marks each type of the module has."""
 
-    def __init__(self, module):
+    def __init__(self, module: Module) -> None:
         kinds = {*module.types, CALLBACK}
-        if len(set(map(lowered, kinds))) == len(kinds):    # no two become one
-            self.counts = {}
+        if len(set(map(lowered_type, kinds))) == len(kinds):    # no two become one
+            self.counts: Dict[Kind, int] = {}
             return
         called, placed = called_types(module), {module.types[module.type_of(f)] for _, those in module.elements for f in those}
-        self.counts, taken = {}, {lowered(kind) for kind in called | placed}
+        self.counts, taken = {}, {lowered_type(kind) for kind in called | placed}
         for kind in sorted(called | placed):
-            others = {it for it in called | placed if it != kind and lowered(it) == lowered(kind)}
-            if kind == lowered(kind) or not others:
+            others = {it for it in called | placed if it != kind and lowered_type(it) == lowered_type(kind)}
+            if kind == lowered_type(kind) or not others:
                 continue
             count = 1
             while self.marked(kind, count) in taken:
@@ -30,18 +38,18 @@ class Marks:
             taken.add(self.marked(kind, count))
 
     @staticmethod
-    def marked(kind, count):
-        parameters, results = lowered(kind)
+    def marked(kind: Kind, count: int) -> Kind:
+        parameters, results = lowered_type(kind)
         return parameters + bytes([I32]) * count, results
 
-    def of(self, kind):
+    def of(self, kind: Kind) -> int:
         return self.counts.get(kind, 0)
 
-    def type(self, kind):
+    def type(self, kind: Kind) -> Kind:
         return self.marked(kind, self.of(kind))
 
 
-def called_types(module):
+def called_types(module: Module) -> Set[Kind]:
     """The types by which something is called through the table: by the guest, by setjmp's imports, by the host."""
     found = {module.types[kind] for _, body in module.bodies for kind in types_in(body) if kind < len(module.types)}
     for origin, field, kind in module.imports:
@@ -53,23 +61,23 @@ def called_types(module):
     return found
 
 
-def types_in(body):
+def types_in(body: bytes) -> Set[int]:
     try:
         return {behind[0] for op, _, behind in operations(body) if op == CALL_INDIRECT}
     except Refused:                                    # it is refused with its function's number when it is rewritten
         return set()
 
 
-def call(callee, marks, spare):
+def call(callee: int, marks: int, spare: int) -> bytes:
     """A call through the table with zeros for the marks: `spare` is a local that has the index meanwhile."""
     return b"\x21" + u(spare) + marks * constant(I32, 0) + b"\x20" + u(spare) + b"\x11" + u(callee) + b"\0"
 
 
-def taker(kind, function):
+def taker(kind: Kind, function: int) -> bytes:
     """A function that takes marks and calls another without them."""
     given = b"".join(b"\x20" + u(i) for i in range(len(kind[0])))
     return vec([]) + given + b"\x10" + u(function) + b"\x0b"
 
 
-def has_floats(kind):
+def has_floats(kind: Kind) -> bool:
     return any(LOWERED[it] != it for part in kind for it in part)

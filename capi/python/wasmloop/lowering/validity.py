@@ -3,19 +3,27 @@
 What comes out has integers in place of floats, so the host can't tell one that mixed them up. This is the algorithm of the
 standard's appendix, for the operations that are taken.
 """
+
+from __future__ import annotations
+
 import bisect
+from typing import Callable, Dict, List, Optional, Sequence, TYPE_CHECKING, Tuple, Union
 
 from .binary import (BLOCKS, BR_TABLE, CALL, CALL_INDIRECT, EMPTY_BLOCK, END, F32, F32_CONST, F64, F64_CONST, GLOBAL_GET, GLOBAL_SET,
-                     I32, I32_CONST, I64, I64_CONST, LOWERED, PREFIX, SELECT, TYPED_SELECT, Refused)
+                     I32, I32_CONST, I64, I64_CONST, LOWERED, PREFIX, SELECT, TYPED_SELECT, Behind, Declared, Refused)
 
-ANY = None                                             # an operand of code that isn't reached
+if TYPE_CHECKING:
+    from .module import Module
+
+Operand = Optional[int]
+ANY: Operand = None                                    # an operand of code that isn't reached
 NAMES = {I32: "i32", I64: "i64", F32: "f32", F64: "f64", ANY: "any type"}
 UNREACHABLE, NOP, IF, ELSE, BR, BR_IF, RETURN, DROP = 0, 1, 4, 5, 0x0C, 0x0D, 0x0F, 0x1A
 LOCAL_GET, LOCAL_SET, LOCAL_TEE = 0x20, 0x21, 0x22
-LETTERS = {"i": I32, "I": I64, "f": F32, "F": F64}
+LETTERS: Dict[str, Operand] = {"i": I32, "I": I64, "f": F32, "F": F64}
 
 
-def signatures():
+def signatures() -> Dict[Union[int, Tuple[int, int]], Tuple[List[Operand], List[Operand]]]:
     """What an operation takes and leaves, by its opcode, or by 0xFC and the number behind it."""
     rows = [(0x45, "i", "i", 1), (0x46, "ii", "i", 10), (0x50, "I", "i", 1), (0x51, "II", "i", 10), (0x5B, "ff", "i", 6),
             (0x61, "FF", "i", 6), (0x67, "i", "i", 3), (0x6A, "ii", "i", 15), (0x79, "I", "I", 3), (0x7C, "II", "I", 15),
@@ -28,7 +36,7 @@ def signatures():
             (0x38, "if", "", 1), (0x39, "iF", "", 1), (0x3A, "ii", "", 2), (0x3C, "iI", "", 3), (0x3F, "", "i", 1),
             (0x40, "i", "i", 1), (I32_CONST, "", "i", 1), (I64_CONST, "", "I", 1), (F32_CONST, "", "f", 1),
             (F64_CONST, "", "F", 1), (NOP, "", "", 1)]
-    found = {op + i: (taken, left) for op, taken, left, count in rows for i in range(count)}
+    found: Dict[Union[int, Tuple[int, int]], Tuple[str, str]] = {op + i: (taken, left) for op, taken, left, count in rows for i in range(count)}
     of_prefix = ["fi", "fi", "Fi", "Fi", "fI", "fI", "FI", "FI"]
     found.update({(PREFIX, i): (row[0], row[1]) for i, row in enumerate(of_prefix)})
     found.update({(PREFIX, i): ("iii" if i in (8, 10, 11) else "", "") for i in (8, 9, 10, 11, 13)})
@@ -41,24 +49,25 @@ SIGNATURES = signatures()
 class Frame:
     """An open block: its opcode, what it takes and leaves, how high the operands were, whether its end isn't reached."""
 
-    def __init__(self, op, taken, left, height):
+    def __init__(self, op: int, taken: List[Operand], left: List[Operand], height: int) -> None:
         self.op, self.taken, self.left, self.height, self.unreachable = op, taken, left, height, False
 
-    def label(self):
+    def label(self) -> List[Operand]:
         return self.taken if self.op == 3 else self.left
 
 
 class Body:
     """The walk through a function of a module."""
 
-    def __init__(self, module, kind, declared):
+    def __init__(self, module: Module, kind: int, declared: Declared) -> None:
         self.module, (parameters, results) = module, module.types[kind]
         self.locals, self.ends_of_locals = [*parameters, *(t for _, t in declared)], list(range(1, len(parameters) + 1))
         for count, _ in declared:
             self.ends_of_locals.append(count + (self.ends_of_locals[-1] if self.ends_of_locals else 0))
-        self.stack, self.frames = [], [Frame(2, [], list(results), 0)]
+        self.stack: List[Operand] = []
+        self.frames = [Frame(2, [], list(results), 0)]
 
-    def pop(self, wanted):
+    def pop(self, wanted: Operand) -> Operand:
         frame = self.frames[-1]
         if len(self.stack) == frame.height:
             if not frame.unreachable:
@@ -69,57 +78,58 @@ class Body:
             raise Refused(f"expected {NAMES[wanted]}, found {NAMES[found]}")
         return found
 
-    def takes(self, kinds):
+    def takes(self, kinds: Sequence[Operand]) -> None:
         for kind in reversed(kinds):
             self.pop(kind)
 
-    def does(self, taken, left):
+    def does(self, taken: Sequence[Operand], left: Sequence[Operand]) -> None:
         self.takes(taken)
         self.stack += left
 
-    def goes_no_further(self):
+    def goes_no_further(self) -> None:
         frame = self.frames[-1]
         del self.stack[frame.height:]
         frame.unreachable = True
 
-    def label(self, depth):
+    def label(self, depth: int) -> List[Operand]:
         if depth >= len(self.frames):
             raise Refused(f"a label {depth} that isn't there")
         return self.frames[-1 - depth].label()
 
-    def block_type(self, behind):
+    def block_type(self, behind: int) -> Tuple[List[Operand], List[Operand]]:
         if behind < 0:
             kind = behind & 127
             return [], [] if kind == EMPTY_BLOCK else [kind]
         self.module.must_have("type", behind)
-        return tuple(map(list, self.module.types[behind]))
+        taken, left = self.module.types[behind]
+        return [*taken], [*left]
 
-    def opens(self, op, taken, left):
+    def opens(self, op: int, taken: List[Operand], left: List[Operand]) -> None:
         self.takes(taken)
         self.frames.append(Frame(op, taken, left, len(self.stack)))
         self.stack += taken
 
-    def closes(self):
+    def closes(self) -> Frame:
         frame = self.frames[-1]
         self.takes(frame.left)
         if len(self.stack) != frame.height:
             raise Refused("a block leaves more operands than its type has results")
         return self.frames.pop()
 
-    def ends(self):
+    def ends(self) -> None:
         frame = self.closes()
         if frame.op == IF and frame.taken != frame.left:
             raise Refused("an if without an else that leaves something else than it takes")
         self.stack += frame.left
 
-    def else_begins(self):
+    def else_begins(self) -> None:
         frame = self.closes()
         if frame.op != IF:
             raise Refused("an else without an if")
         self.stack += frame.taken
         self.frames.append(Frame(ELSE, frame.taken, frame.left, len(self.stack) - len(frame.taken)))
 
-    def selects(self, op, kinds):
+    def selects(self, op: int, kinds: Tuple[int, ...]) -> None:
         self.pop(I32)
         if op == TYPED_SELECT:
             if len(kinds) != 1 or kinds[0] not in LOWERED:
@@ -130,7 +140,7 @@ class Body:
         first = self.pop(second)
         self.stack.append(second if first is ANY else first)
 
-    def branches(self, labels):
+    def branches(self, labels: Sequence[int]) -> None:
         """br_table: each label takes what is there."""
         self.pop(I32)
         if len({len(self.label(label)) for label in labels}) > 1:
@@ -140,7 +150,7 @@ class Body:
             self.stack += reversed([self.pop(kind) for kind in reversed(kinds)])
         self.goes_no_further()
 
-    def variable(self, op, index):
+    def variable(self, op: int, index: int) -> None:
         if op in (GLOBAL_GET, GLOBAL_SET):
             self.module.must_have("global", index)
             kind = self.module.values[index][0]
@@ -151,7 +161,7 @@ class Body:
             kind = self.locals[place]
         self.does([] if op in (LOCAL_GET, GLOBAL_GET) else [kind], [] if op in (LOCAL_SET, GLOBAL_SET) else [kind])
 
-    def calls(self, op, behind):
+    def calls(self, op: int, behind: Behind) -> None:
         if op == CALL_INDIRECT:
             self.pop(I32)
             self.module.must_have("type", behind[0])
@@ -159,9 +169,10 @@ class Body:
         else:
             self.module.must_have("function", behind)
             kind = self.module.type_of(behind)
-        self.does(*map(list, self.module.types[kind]))
+        taken, left = self.module.types[kind]
+        self.does([*taken], [*left])
 
-    def leaves(self, op, behind):
+    def leaves(self, op: int, behind: Behind) -> None:
         if op == BR_IF:
             self.pop(I32)
             self.does(self.label(behind), self.label(behind))
@@ -173,12 +184,12 @@ class Body:
             self.takes(self.frames[0].left if op == RETURN else self.label(behind))
         self.goes_no_further()
 
-    def begins(self, op, behind):
+    def begins(self, op: int, behind: int) -> None:
         if op == IF:
             self.pop(I32)
         self.opens(op, *self.block_type(behind))
 
-    def operation(self, op, behind):
+    def operation(self, op: int, behind: Behind) -> None:
         if not self.frames:
             raise Refused("an operation behind the body's end")
         taken_and_left = SIGNATURES.get((PREFIX, behind[0]) if op == PREFIX else op)
@@ -187,12 +198,12 @@ class Body:
         else:
             OTHERS[op](self, op, behind)
 
-    def ended(self):
+    def ended(self) -> None:
         if self.frames:
             raise Refused("a body that doesn't end")
 
 
-OTHERS = {
+OTHERS: Dict[int, Callable[[Body, int, Behind], object]] = {
     **dict.fromkeys((LOCAL_GET, LOCAL_SET, LOCAL_TEE, GLOBAL_GET, GLOBAL_SET), Body.variable),
     **dict.fromkeys((CALL, CALL_INDIRECT), Body.calls),
     **dict.fromkeys(BLOCKS, Body.begins),

@@ -1,0 +1,186 @@
+"""Tries the wrong bodies of a crate, as many in one check as can be, and keeps on this machine what was refused."""
+
+from __future__ import annotations
+
+import hashlib
+import os
+import re
+import shutil
+import signal
+import subprocess
+import sys
+import tempfile
+import threading
+import time
+from typing import Dict, Iterator, List, Mapping, Optional, Sequence, Set, Tuple
+
+TOP = os.path.dirname(os.path.dirname(os.path.realpath(__file__)))
+sys.dont_write_bytecode = True
+sys.path.insert(0, TOP)
+import build  # noqa: E402
+import edits as edits_of_tree  # noqa: E402
+import kept  # noqa: E402
+import verdicts  # noqa: E402
+from edits import PARTS, Copy, Edit, copies_of, text_of  # noqa: E402
+from verdicts import BAD, KEPT, MISSED, REFUSED, UNSURE, told_in, verdict  # noqa: E402
+
+# What a verdict is made by: what it was is kept as long as these are the same.
+MADE_BY = [__file__, edits_of_tree.__file__, verdicts.__file__]
+# What a check takes of memory at most, in bytes; and how long it waits between two looks whether that is free, or libraries are there.
+CHECK, LOOK = 3_000_000_000, 1.0
+
+
+class Kept:
+    """What earlier runs on this machine refused of a crate's wrong bodies, by a sum of all that it rests on."""
+
+    def __init__(self, rtlib: build.Kit, crate: build.RtCrate) -> None:
+        self.rtlib, self.crate = rtlib, crate
+        self.first, self.folder = self.sum(), kept.folder("wrong")
+
+    def sum(self) -> str:
+        return build.sum_over_built(self.rtlib, self.crate, MADE_BY)
+
+    def file(self, edit: Edit) -> str:
+        return f"{self.folder}/{hashlib.sha256((self.first + text_of(edit.path)).encode()).hexdigest()}"
+
+    def find(self, edit: Edit) -> Optional[str]:
+        return text_of(self.file(edit)) if os.path.isfile(self.file(edit)) else None
+
+    def keep(self, refused: Mapping[Edit, str]) -> None:
+        """Keeps what was refused, unless something that it rests on was changed meanwhile."""
+        if self.sum() != self.first:
+            return
+        os.makedirs(self.folder, exist_ok=True)
+        for edit, why in refused.items():
+            with tempfile.NamedTemporaryFile("w", dir=self.folder, delete=False, encoding="utf-8") as it:
+                it.write(why)
+            os.replace(it.name, self.file(edit))
+
+
+class Memory:
+    """A check, which waits while `rt ci` is at work and memory is short."""
+
+    lock, running = threading.Lock(), 0
+
+    def __init__(self, rtlib: build.Kit, over: Optional[str]) -> None:
+        self.rtlib, self.over = rtlib, over
+
+    def __enter__(self) -> None:
+        while True:
+            with Memory.lock:
+                if not self.over or os.path.exists(f"{self.over}/over") or self.rtlib.fits(CHECK * (Memory.running + 1)):
+                    Memory.running += 1
+                    return
+            time.sleep(LOOK)
+
+    def __exit__(self, *_: object) -> None:
+        with Memory.lock:
+            Memory.running -= 1
+
+
+class Trier:
+    """Tries the wrong bodies of one crate."""
+
+    def __init__(self, rtlib: build.Kit, crate: build.RtCrate, edits: Sequence[Edit], tells: bool, over: Optional[str] = None) -> None:
+        self.rtlib, self.crate, self.edits, self.tells, self.over = rtlib, crate, edits, tells, over
+        self.checked = tempfile.mkdtemp(prefix="wrong-checked-")
+        self.checks = 0
+        self.apart: Set[Edit] = set()
+
+    def check(self, texts: Mapping[str, str], functions: Sequence[str]) -> Tuple[int, str]:
+        """Checks these functions, or else all, of a copy of the crate with these texts; returns the status, and what is said."""
+        self.checks += 1
+        with Memory(self.rtlib, self.over):
+            return self.check_now(texts, functions)
+
+    def check_now(self, texts: Mapping[str, str], functions: Sequence[str]) -> Tuple[int, str]:
+        """The check itself, which another one may run beside."""
+        flags = [word for it in functions for word in ("--only", it)]
+        with tempfile.TemporaryDirectory(prefix="wrong-") as room:
+            for part in PARTS:
+                if os.path.isdir(f"{self.crate.folder}/{part}"):
+                    shutil.copytree(f"{self.crate.folder}/{part}", f"{room}/{part}")
+            for file, text in texts.items():
+                with open(f"{room}/{file}", "w", encoding="utf-8") as it:
+                    it.write(text)
+            words = [self.rtlib.RATTLE, "check", *self.crate.words(["--jobs", "1", *flags], keeps=False), "--incremental", self.checked]
+            ran = self.run(words, room)
+            if ran.returncode == -signal.SIGKILL:
+                # (most likely for memory: once more)
+                ran = self.run(words, room)
+        if self.tells:
+            print(ran.stdout, flush=True)
+        return ran.returncode, ran.stdout
+
+    def run(self, words: Sequence[str], folder: str) -> subprocess.CompletedProcess[str]:
+        return subprocess.run([*self.rtlib.guarded(), *words], cwd=folder, errors="replace", check=False, stdin=subprocess.DEVNULL,
+                              stdout=subprocess.PIPE, stderr=subprocess.STDOUT)
+
+    def together(self, copy: Copy) -> Dict[Edit, Optional[Tuple[str, str]]]:
+        """Tries a copy, and returns what is known by it. One whose function has another name than was guessed is left out."""
+        status, said = self.check(copy.texts, copy.functions())
+        lost = re.search(r"has no function `([^`]+)`", said)
+        if status == 2 and lost:
+            left = Copy()
+            for edit in copy.edits:
+                if lost[1] not in edit.functions:
+                    left.takes(edit)
+            return self.together(left) if left.edits else {}
+        if not re.search(r"^only=\d+ proved=\d+", said, re.M):
+            # (one of them is no code, say)
+            self.apart.update(copy.edits)
+            return {}
+        told = told_in(said, [it for edit in copy.edits for it in edit.places])
+        return {edit: verdict(edit, told) for edit in copy.edits}
+
+    def by_itself(self, edit: Edit) -> Tuple[str, str]:
+        """Tries one in a copy of its own, all of the crate where its functions aren't known."""
+        texts: Dict[str, str] = {}
+        fault = edit.fault_in(texts)
+        if fault:
+            return BAD, fault
+        status, said = self.check(texts, edit.functions)
+        if status == 2 and edit.functions and not edit.wanted:
+            edit.functions = []
+            status, said = self.check(texts, [])
+        if not re.search(r"^(?:logic=(?:not-)?proved|only=\d+ proved=\d+)", said, re.M):
+            first = next((it for it in said.splitlines() if re.search(r"\berror\b", it)), "")
+            no_code = BAD, f"it is no code that the prover is asked of: {first[:200]}"
+            return no_code if status == 1 else (UNSURE, f"its check ended with status {status}")
+        told = told_in(said, edit.places)
+        if not edit.functions and not any(told.values()):
+            return (MISSED, "the crate is still proved") if status == 0 else (UNSURE, "no function's line says what is not proved")
+        return verdict(edit, told) or (UNSURE, "the lines of its functions say nothing of it")
+
+    def all(self, kept: Optional[Kept] = None) -> Iterator[Tuple[Edit, Tuple[str, str]]]:
+        """Yields each wrong body with its verdict, as it comes."""
+        refused: Dict[Edit, str] = {}
+        known: Set[Edit] = set()
+        for edit in self.edits if kept else []:
+            why = kept and kept.find(edit)
+            if why:
+                known.add(edit)
+                yield edit, (REFUSED, why + KEPT)
+        for edit, (kind, why) in self.tried(known):
+            refused.update({edit: why} if kind == REFUSED else {})
+            yield edit, (kind, why)
+        if kept:
+            kept.keep(refused)
+
+    def tried(self, known: Set[Edit]) -> Iterator[Tuple[Edit, Tuple[str, str]]]:
+        """Yields those that aren't known with their verdicts."""
+        left: Optional[List[Edit]] = None
+        try:
+            while left is None or 0 < len([it for it in self.edits if it not in known]) < len(left):
+                # (beside others once more where one of those, below it, kept it from saying anything)
+                left = [it for it in self.edits if it not in known]
+                for copy in copies_of([it for it in left if it not in self.apart]):
+                    for edit, what in self.together(copy).items():
+                        if what:
+                            known.add(edit)
+                            yield edit, what
+            for edit in self.edits:
+                if edit not in known:
+                    yield edit, self.by_itself(edit)
+        finally:
+            shutil.rmtree(self.checked, ignore_errors=True)

@@ -1,0 +1,142 @@
+"""Tests of tools/wrong.py: the planning and the reading of verdicts on texts that are known, and wrong bodies of a crate of its own, of which not
+all are refused as they say."""
+
+from __future__ import annotations
+
+import os
+import sys
+import tempfile
+from typing import Dict, List, Mapping, Optional, Sequence
+
+TOP = os.path.dirname(os.path.dirname(os.path.realpath(__file__)))
+sys.dont_write_bytecode = True
+sys.path.insert(0, TOP)
+import build  # noqa: E402
+from edits import Alone, Edit, Place, place_in  # noqa: E402
+from trier import Kept, Trier  # noqa: E402
+from verdicts import BAD, ELSEWHERE, MISSED, REFUSED, told_in, verdict  # noqa: E402
+
+CODE = """use a::b;
+
+impl<M: Fn(u8) -> One<u8>> Two<M>
+    for One<'_, M> {
+    pub fn f(self) -> u8
+        requires x { a }
+    {
+        let a = 1;
+        a
+    }
+}
+
+fn g() -> u8
+{
+    2
+}
+
+const H: u8 = 3;
+"""
+SAID = """fn c::f: proved
+fn c::m::One::g: no proof: expected answers in ./proofs/m/One/g/Answers.antt; `search` did not prove `returns-clause-a`, `fits`; it calls `c::f`
+proofs/h/Answers.antt:3:1: error: `returns-then-x-clause-b`: expected `a`, found `b`
+proofs/h/Answers.antt:4:1: error: `returns-2`: `goal.returns-2`: module `Rattle.c.proofs.h.Goals` has no `returns-2` that can be named
+note: src/h.rt:8:1: it is not proved that what the function ensures holds when it returns (`returns-else-clause-c`); `search` gave up
+note: src/h.rt:30:1: it is not proved that what the function ensures holds when it returns (`returns-clause-d`)
+fn c::h: not proved
+fn c::i: no proof: it calls `c::h`, which is not proved
+"""
+TOLD: Dict[str, List[str]] = {"f": [], "m::One::g": ["a", "fits"], "h": ["b", "c"]}
+
+
+class Said:
+    """An edit as far as a verdict asks for it."""
+
+    def __init__(self, functions: Sequence[str], wanted: Optional[Mapping[str, Sequence[str]]] = None) -> None:
+        self.functions, self.wanted = functions, wanted or {}
+
+
+def known() -> int:
+    """The planning, and the reading of what rattle says, on texts that are known."""
+    places = {"let a = 1;": "m::OneTwo::f", "    2": "m::g", "requires x { a }": Alone, "use a::b;": Alone, "pub fn f(self)": Alone, "u8 = 3": Alone}
+    wrong: List[str] = []
+    for old, what in places.items():
+        place = place_in("src/m.rt", CODE, old)
+        is_right = isinstance(place, Alone) if what is Alone else isinstance(place, Place) and place.name == what
+        wrong += [] if is_right else [f"{old!r} is of {place!r}"]
+    told = told_in(SAID, [Place("h", "src/h.rt", 8, 12)])
+    wrong += [] if told == TOLD else [f"told is {told}"]
+    verdicts = [
+        (Said(["f"]), MISSED), (Said(["h"]), REFUSED), (Said(["i"]), None), (Said(["f", "h"]), REFUSED), (Said(["h"], {"h": ["a"]}), ELSEWHERE),
+        (Said(["m::One::g"], {"m::One::g": ["fits"]}), REFUSED), (Said(["f"], {"f": ["fits"]}), MISSED), (Said([]), REFUSED),
+    ]
+    for edit, kind in verdicts:
+        found = verdict(edit, TOLD)
+        wrong += [] if (found and found[0]) == kind else [f"{edit.functions} by {edit.wanted}: {found}, not {kind}"]
+    print("\n".join(wrong) or f"{len(places) + 1 + len(verdicts)} known answers are found")
+    return 1 if wrong else 0
+
+
+PLANTED = """#![tactic(auto)]
+
+ghost use Rattle.std.specs.Prelude.{◌≡◌, ◌≤◌, ◌+◌};
+
+/// One more, at most 200.
+pub fn more(a: u8) -> u8
+    requires { a ≤ 100 }
+    ensures grows { result ≡ a + 1 }
+    ensures small { result ≤ 200 }
+{
+    a + 1
+}
+
+/// Two more.
+pub fn twice(a: u8) -> u8
+    requires { a ≤ 50 }
+    ensures { result ≡ a + 2 }
+{
+    more(more(a))
+}
+
+/// As it is.
+pub fn same(a: u8) -> u8
+    ensures { result ≡ a }
+{
+    let b = a;
+    b
+}
+"""
+PLANTS = {
+    "is_proved": (MISSED, "old: let b = a;\nnew: let b = a + 0;"),
+    "is_no_code": (BAD, "old:     more(more(a))\nnew:     less(a)"),
+    "has_no_place": (BAD, "old:     less(a)\nnew:     a"),
+    "is_refused_elsewhere": (ELSEWHERE, "# refused: more: small\nold:     a + 1\nnew:     a + 2"),
+    "is_refused": (REFUSED, "# refused: more: grows\nold:     a + 1\nnew:     a + 3"),
+}
+
+
+def planted() -> int:
+    """Whether wrong bodies of a crate of its own get the verdicts that they must."""
+    rtlib = build.kit() if build.has_rt() else None
+    if not rtlib:
+        return 1
+    with tempfile.TemporaryDirectory(prefix="wrong-planted-") as room:
+        for folder in ("src", "wrong"):
+            os.makedirs(f"{room}/crates/planted/{folder}")
+        for file, text in {"crates.txt": "planted:\n", "crates/planted/src/lib.rt": PLANTED}.items():
+            with open(f"{room}/{file}", "w", encoding="utf-8") as it:
+                it.write(text)
+        for name, (_, text) in PLANTS.items():
+            with open(f"{room}/crates/planted/wrong/{name}.edit", "w", encoding="utf-8") as it:
+                it.write(f"file: src/lib.rt\n{text}\n")
+        rtlib.guarded()
+        crate = rtlib.Crate(f"{room}/crates/planted", room, {})
+        edits = [Edit(f"{room}/crates/planted/wrong/{name}.edit") for name in PLANTS]
+        os.environ["XDG_CACHE_HOME"] = room
+        found = {edit.name: what for edit, what in Trier(rtlib, crate, edits, False).all(Kept(rtlib, crate))}
+        kept = [it.name for it in edits if Kept(rtlib, crate).find(it)]
+        with open(f"{room}/crates/planted/src/lib.rt", "a", encoding="utf-8") as it:
+            it.write("// changed\n")
+        stale = [it.name for it in edits if Kept(rtlib, crate).find(it)]
+    wrong = [f"{name}: {found[name]}, and not {what}" for name, (what, _) in PLANTS.items() if found[name][0] != what]
+    wrong += [] if (kept, stale) == (["is_refused"], []) else [f"kept is {kept}, and of a changed crate {stale}"]
+    print("\n".join(wrong) or f"{len(PLANTS)} planted wrong bodies have the verdicts that they must")
+    return 1 if wrong else 0

@@ -101,6 +101,13 @@ def checks_at_once() -> Optional[int]:
     return found
 
 
+def yields(process: int, nice: int) -> None:
+    """Makes a session nicer, by its first process. Linux shares the processors among sessions, whatever their processes' own niceness is, which
+    orders those of one session alone."""
+    with contextlib.suppress(OSError), open(f"/proc/{process}/autogroup", "w", encoding="utf-8") as group:
+        group.write(str(nice))
+
+
 class Part:
     """A command, and what became of it. Its output goes to a file, so that no process which it leaves behind holds the gate up."""
 
@@ -135,6 +142,7 @@ class Part:
                 log.write(f"{error}\n")
                 self.status = 127
                 return
+            yields(self.process.pid, self.nice)
             ended = None
             while ended is None:
                 ended = self.process.poll()

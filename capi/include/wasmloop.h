@@ -252,7 +252,7 @@ int wasmloop_instance(const wasmloop_handle *module, const wasmloop_call_limits 
  * of its type's range. RANGE: the depth is not 1 to 128. Otherwise nothing changes, and *ended is not written. */
 int wasmloop_call(wasmloop_handle *instance, const char *name, const uint64_t *args, size_t count, const wasmloop_call_limits *limits, wasmloop_ended *ended);
 
-/* Calls the function that is export `number` of the module, as wasmloop_call does; no name is looked up. NONE: it is no function, or there is
+/* Calls the function that is export `number` of the module: as wasmloop_call does, but no name is looked up. NONE: it is no function, or there is
  * no such export. */
 int wasmloop_call_at(wasmloop_handle *instance, uint64_t number, const uint64_t *args, size_t count, const wasmloop_call_limits *limits, wasmloop_ended *ended);
 
@@ -262,20 +262,20 @@ int wasmloop_call_at(wasmloop_handle *instance, uint64_t number, const uint64_t 
  * and wasmloop_call_end returns KIND. */
 int wasmloop_call_begin(wasmloop_handle *instance, const char *name, const uint64_t *args, size_t count, const wasmloop_call_limits *limits);
 
-/* Runs a slice of the call that wasmloop_call_begin began, in any thread: at most `units` units of fuel, at least 1. Sets *over to 1 if the
+/* Runs a slice of a call that has begun, in any thread: at most `units` units of fuel, at least 1. Sets *over to 1 if the
  * call is over: *ended, the results, the fuel and the memory are those of wasmloop_call, and you may call the instance again. Sets *over to 0
  * if it has used all the units and has fuel left: it may continue, in this thread or another. RANGE: `units` is 0. KIND: no call is in
  * progress. In no other case is *over or *ended written. */
 int wasmloop_call_run_for(wasmloop_handle *instance, uint64_t units, uint32_t *over, wasmloop_ended *ended);
 
-/* Begins a call by number, as wasmloop_call_at, and runs its first slice, as wasmloop_call_run_for. A call that is over within `units` costs little
+/* Begins a call by number and runs its first slice: as wasmloop_call_at and wasmloop_call_run_for do. A call that is over within `units` costs little
  * more than wasmloop_call_at, and a function of at most 8 parameters and 1 result needs no allocation. Sets *over to 1 if the call is over; else to
  * 0: then continue it with wasmloop_call_run_for or end it. NONE, ARGUMENTS: as for wasmloop_call_at. RANGE: the depth is not 1 to 128, or `units` is
  * 0. KIND: a call is in progress. In no case but OK is *over written, and *ended only where *over is 1. */
 int wasmloop_call_for(wasmloop_handle *instance, uint64_t number, const uint64_t *args, size_t count, const wasmloop_call_limits *limits, uint64_t units,
     uint32_t *over, wasmloop_ended *ended);
 
-/* Ends the call that wasmloop_call_begin or wasmloop_call_for began, before it is over, and keeps the instance: *ended is SPENT, with the fuel that
+/* Ends a call before it is over, and keeps the instance: one that wasmloop_call_begin or wasmloop_call_for began. *ended is SPENT, with the fuel that
  * the call has used. The memory and the globals are those of wasmloop_call with exactly that much fuel, wasmloop_stop reports where the call stood,
  * or NONE if nothing of it has run, and you may call the instance again. KIND: no call is in progress; then *ended is not written. */
 int wasmloop_call_end(wasmloop_handle *instance, wasmloop_ended *ended);
@@ -291,7 +291,7 @@ int wasmloop_size(wasmloop_handle *handle, uint64_t *bytes);
  * above PTRDIFF_MAX. `into` may be NULL if `length` is 0. */
 int wasmloop_read(wasmloop_handle *handle, uint32_t at, uint8_t *into, size_t length);
 
-/* Copies `length` bytes into the memory of an instance that is in no call, from address `at`. RANGE: as for wasmloop_read. `from` may be NULL if
+/* Copies `length` bytes into the memory, from address `at`. The instance is in no call. RANGE: as for wasmloop_read. `from` may be NULL if
  * `length` is 0. */
 int wasmloop_write(wasmloop_handle *instance, uint32_t at, const uint8_t *from, size_t length);
 
@@ -509,7 +509,7 @@ const char *wasmloop_outcome_name(uint32_t outcome);
  * wasmloop_stop_told has the place. RANGE: a number has no name, or `room` is above PTRDIFF_MAX. */
 int wasmloop_ended_text(uint32_t ending, uint32_t trap, uint64_t used, char *into, size_t room, uint64_t *count);
 
-/* Writes how a job ended, as wasmloop_ended_text does, by the numbers of wasmloop_about: also "not over yet, after 7 units", "an allocation failed, after 0
+/* Writes how a job ended: as wasmloop_ended_text does, by the numbers of wasmloop_about; also "not over yet, after 7 units", "an allocation failed, after 0
  * units". */
 int wasmloop_outcome_text(uint32_t outcome, uint32_t value, uint64_t used, char *into, size_t room, uint64_t *count);
 

@@ -202,7 +202,7 @@ def broken_links() -> Iterator[str]:
 def template() -> str:
     """The template of pull requests, of the table of changes."""
     table = read(CHANGES).split('\n## A change')[1].split('\n## ')[0]
-    rows = re.findall(r"^\| ([^|]+) \| ([^|]+) \|.*\|$", re.sub(r"\[([^]]*)\]\([^)]*\)", r"\1", table), re.M)
+    rows = re.findall(r"^([^|\n]+) \| ([^|\n]+) \| .*$", re.sub(r"\[([^]]*)\]\([^)]*\)", r"\1", table), re.M)
     return ASKED + ''.join(f"- [ ] {changed}: {run}\n" for changed, run in rows[1:])
 
 

@@ -176,8 +176,8 @@ if [ -d python ] && [ -f counter.wasm ]; then
     snippet docs/EMBEDDING.md "block 1 in Python" "python3 snippet.py"
 fi
 if [ -d python ] && [ -f notes.wasm ]; then
-    for number in 1 2 3 4; do block docs/COOKBOOK.md python $number; done > cook.py
-    [ "$(grep -c assert cook.py)" = 4 ] && [ -z "$(block docs/COOKBOOK.md python 5)" ] || fail "docs/COOKBOOK.md has other than four blocks with four assertions"
+    for number in 1 2 3 4; do block docs/COOKBOOK.md python $number; done | sed "s|LOOP/|$room/|" > cook.py
+    [ "$(grep -c assert cook.py)" = 5 ] && [ -z "$(block docs/COOKBOOK.md python 5)" ] || fail "docs/COOKBOOK.md has other than four blocks with five assertions"
     snippet docs/COOKBOOK.md "its program" "python3 cook.py"
 fi
 "$top/examples/guests_test.sh" "$program" || wrong=$((wrong + 1))

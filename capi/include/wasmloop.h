@@ -484,9 +484,7 @@ enum {
     WASMLOOP_ARGUMENTS = 12    /* the wrong number of arguments, or one out of its type's range */
 };
 
-/* The texts that the next six calls return are never freed. They return NULL for a number without one. */
-
-/* A status's name, such as "MEMORY". */
+/* A status's name, such as "MEMORY". The texts of this call and of the next five are never freed; NULL: the number has none. */
 const char *wasmloop_status_name(int status);
 
 /* A status as a sentence, such as "an allocation failed". */

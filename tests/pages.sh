@@ -180,6 +180,16 @@ if [ -d python ] && [ -f notes.wasm ]; then
     [ "$(grep -c assert cook.py)" = 5 ] && [ -z "$(block docs/COOKBOOK.md python 5)" ] || fail "docs/COOKBOOK.md has other than four blocks with five assertions"
     snippet docs/COOKBOOK.md "its program" "python3 cook.py"
 fi
+# each tool of the package has one line in the list, and a page names it
+if [ -d python ]; then
+    count=$((count + 1))
+    python3 -m wasmloop > listed
+    while read -r _ _ _ tool _; do
+        [ "$(grep -c "wasmloop $tool " listed)" = 1 ] || fail "the list has more than a line for $tool"
+        grep -qw "wasmloop\.$tool" "$top"/docs/*.md "$top"/examples/kit/README.md "$top"/examples/kit/ask/README.md || fail "no page names the tool $tool"
+    done < listed
+    [ "$(wc -l < listed)" -ge 13 ] || fail "the list of tools is too short"
+fi
 "$top/examples/guests_test.sh" "$program" || wrong=$((wrong + 1))
 echo "pages: $count commands, $left left out, $wrong wrong"
 [ $wrong = 0 ]

@@ -1,10 +1,11 @@
 #!/usr/bin/env bash
 # Runs the commands of the pages, as they stand there, in a copy of what they need.
 #
-# A command is an indented line of README, of docs, of capi and of examples that begins with one of the words below. PROGRAM is its `wasmloop`, and
-# the copy its LOOP. A page of capi begins in an empty folder. What follows a command behind `#`, or below a line that begins with `$`, is what it prints, or its first line begins so. Left out, and said, are
-# those that need Rattle's kit, a network, a package that isn't there, or a file of the reader's. The commands of docs/GUESTS.md, which build
-# on one another, are run by examples/guests_test.sh, which it calls. Ends with 1 if a command fails or prints something else.
+# A command is an indented line of README, of docs, of capi and of examples that begins with one of the words below. PROGRAM is its
+# `wasmloop`, and the copy its LOOP. The pages of capi, EMBEDDING and COOKBOOK begin in an empty folder each. What follows a command behind
+# `#`, or below a line that begins with `$`, is what it prints, or its first line begins so. Left out, and said, are those that need
+# Rattle's kit, a network, a package that isn't there, or a file of the reader's. The commands of docs/GUESTS.md, which build on one
+# another, are run by examples/guests_test.sh, which it calls. Ends with 1 if a command fails or prints something else.
 #
 # usage: tests/pages.sh PROGRAM [--tell]        with --tell each command that is run is printed
 set -u
@@ -19,7 +20,7 @@ ln -s "$top/crates" "$top/crates.txt" "$room"
 ln -s "$program" "$room/wasmloop"
 cd "$room" || exit 1
 export PATH="$room:$PATH" PIP_TARGET="$room/python" PIP_NO_INDEX=1 PIP_DISABLE_PIP_VERSION_CHECK=1 PYTHONPATH="$room/python" WASMLOOP="$room/wasmloop"
-export CARGO_TARGET_DIR="$room/target" WASMLOOP_FOLDER="$room/dist" LD_LIBRARY_PATH="$room/prefix/lib"
+export CARGO_TARGET_DIR="$room/target" WASMLOOP_FOLDER="$room/dist"
 count=0 wrong=0 left=0
 
 has() { command -v "$1" > /dev/null; }
@@ -127,14 +128,13 @@ run_page() {
     done < <(commands "$1")
 }
 
-for language in python rust; do
-    mkdir "from_nothing_$language" && cd "from_nothing_$language" && run_page "capi/$language/README.md"
+for page in capi/python/README.md capi/rust/README.md docs/EMBEDDING.md docs/COOKBOOK.md; do
+    mkdir -p "empty/$page" && cd "empty/$page" && run_page "$page"
     cd "$room" || exit 1
 done
 mkdir guest
 block README.md c > guest/tick.c
-for page in README.md docs/COMMANDS.md docs/EMBEDDING.md docs/COOKBOOK.md docs/DEBUGGING.md examples/plugins/README.md examples/README.md examples/libraries/README.md \
-    examples/kit/ask/README.md; do
+for page in README.md docs/COMMANDS.md docs/DEBUGGING.md examples/plugins/README.md examples/README.md examples/libraries/README.md examples/kit/ask/README.md; do
     [ ! -f "$top/$page" ] || run_page "$page"
 done
 
@@ -151,11 +151,11 @@ says() {
 says README.md './wasmloop work examples/sha256.wasm 0 616263' 'done 3 bytes 32 ba7816bf8f01cfea'
 says docs/COMMANDS.md './wasmloop check examples/seven.wasm' 'accepted'
 
-# snippet PAGE NAME COMMAND: a command over blocks of a page
+# snippet PAGE NAME COMMAND: a command over blocks of a page, in the folder of its commands
 snippet() {
     count=$((count + 1))
     # shellcheck disable=SC2086
-    $3 > said 2>&1 || { fail "$1: $2"; cat said; }
+    (cd "empty/$1" && $3) > said 2>&1 || { fail "$1: $2"; cat said; }
 }
 if has cc; then
     hosts=0 number=2
@@ -164,31 +164,30 @@ if has cc; then
         # (a block without a handle is a guest, which the page's commands compile)
         if grep -q wasmloop_handle "snippet$number.c"; then
             hosts=$((hosts + 1))
-            snippet docs/EMBEDDING.md "block $number in C" "cc -std=c99 -Wall -Werror -Icapi/include -c snippet$number.c"
+            snippet docs/EMBEDDING.md "block $number in C" "cc -std=c99 -Wall -Werror -I$room/capi/include -c $room/snippet$number.c"
         fi
         number=$((number + 1))
     done
     [ $hosts = 4 ] || fail "docs/EMBEDDING.md has $hosts blocks of a host in C behind the first, not 4"
 fi
-if [ -d python ] && [ -f counter.wasm ]; then
+if [ -d python ] && [ -f empty/docs/EMBEDDING.md/counter.wasm ]; then
     { printf 'from wasmloop import Module\nmodule = Module(open("counter.wasm", "rb").read())\n'; block docs/EMBEDDING.md python; } > snippet.py
     grep -q run_for snippet.py || fail "docs/EMBEDDING.md has no block 1 in Python"
-    snippet docs/EMBEDDING.md "block 1 in Python" "python3 snippet.py"
+    snippet docs/EMBEDDING.md "block 1 in Python" "python3 $room/snippet.py"
 fi
-if [ -d python ] && [ -f notes.wasm ]; then
+if [ -d python ] && [ -f empty/docs/COOKBOOK.md/notes.wasm ]; then
     for number in 1 2 3 4; do block docs/COOKBOOK.md python $number; done | sed "s|LOOP/|$room/|" > cook.py
     [ "$(grep -c assert cook.py)" = 5 ] && [ -z "$(block docs/COOKBOOK.md python 5)" ] || fail "docs/COOKBOOK.md has other than four blocks with five assertions"
-    snippet docs/COOKBOOK.md "its program" "python3 cook.py"
+    snippet docs/COOKBOOK.md "its program" "python3 $room/cook.py"
 fi
-# each tool of the package has one line in the list, and a page names it
+# each tool of the package, which is a file that runs by itself, has one line in the list, and a page names it
 if [ -d python ]; then
     count=$((count + 1))
     python3 -m wasmloop > listed
-    while read -r _ _ _ tool _; do
-        [ "$(grep -c "wasmloop $tool " listed)" = 1 ] || fail "the list has more than a line for $tool"
-        grep -qw "wasmloop\.$tool" "$top"/docs/*.md "$top"/examples/kit/README.md "$top"/examples/kit/ask/README.md || fail "no page names the tool $tool"
-    done < listed
-    [ "$(wc -l < listed)" -ge 13 ] || fail "the list of tools is too short"
+    for tool in $(cd python/wasmloop && grep -l '^if __name__ == "__main__"' [!_]*.py); do
+        [ "$(grep -c "wasmloop ${tool%.py} " listed)" = 1 ] || fail "the list has not one line for $tool"
+        grep -qw "wasmloop\.${tool%.py}" "$top"/docs/*.md "$top"/examples/kit/README.md "$top"/examples/kit/ask/README.md || fail "no page names $tool"
+    done
 fi
 "$top/examples/guests_test.sh" "$program" || wrong=$((wrong + 1))
 echo "pages: $count commands, $left left out, $wrong wrong"

@@ -1,10 +1,11 @@
 #!/usr/bin/env bash
 # Runs the commands of the pages, as they stand there, in a copy of what they need.
 #
-# A command is an indented line of README, of docs and of examples that begins with one of the words below. PROGRAM is its `wasmloop`. What
-# follows a command behind `#`, or below a line that begins with `$`, is what it prints, or its first line begins so. Left out, and said, are
-# those that need Rattle's kit, a network, a package that isn't there, or a file of the reader's. The commands of docs/GUESTS.md, which build
-# on one another, are run by examples/guests_test.sh, which it calls. Ends with 1 if a command fails or prints something else.
+# A command is an indented line of README, of docs, of capi and of examples that begins with one of the words below. PROGRAM is its
+# `wasmloop`, and the copy its LOOP. The pages of capi, EMBEDDING and COOKBOOK begin in an empty folder each. What follows a command behind
+# `#`, or below a line that begins with `$`, is what it prints, or its first line begins so. Left out, and said, are those that need
+# Rattle's kit, a network, a package that isn't there, or a file of the reader's. The commands of docs/GUESTS.md, which build on one
+# another, are run by examples/guests_test.sh, which it calls. Ends with 1 if a command fails or prints something else.
 #
 # usage: tests/pages.sh PROGRAM [--tell]        with --tell each command that is run is printed
 set -u
@@ -19,7 +20,7 @@ ln -s "$top/crates" "$top/crates.txt" "$room"
 ln -s "$program" "$room/wasmloop"
 cd "$room" || exit 1
 export PATH="$room:$PATH" PIP_TARGET="$room/python" PIP_NO_INDEX=1 PIP_DISABLE_PIP_VERSION_CHECK=1 PYTHONPATH="$room/python" WASMLOOP="$room/wasmloop"
-export CARGO_TARGET_DIR="$room/target" WASMLOOP_FOLDER="$room/dist" LD_LIBRARY_PATH="$room/prefix/lib"
+export CARGO_TARGET_DIR="$room/target" WASMLOOP_FOLDER="$room/dist"
 count=0 wrong=0 left=0
 
 has() { command -v "$1" > /dev/null; }
@@ -44,12 +45,12 @@ commands() {
         END { flush() }' "$top/$1"
 }
 
-# writes the files of a page: each block below a line that is a name, as `first.c`:
+# writes the files of a page: each block below a line that is a name, or ends with one, as `first.c`:
 files() {
     awk '
-        /^```/ { if (!inside && name) { file = name; printf "" > file } inside = !inside; if (!inside) file = ""; name = ""; next }
+        /^```/ { if (!inside && name) { file = name; if (sub("/[^/]*$", "", name)) system("mkdir -p " name); printf "" > file } inside = !inside; if (!inside) file = ""; name = ""; next }
         inside { if (file) print > file; next }
-        /^`[a-z_]+\.[a-z]+`:$/ { name = substr($0, 2, length - 3); next }
+        /(^| )`[a-z_\/]+\.[a-z]+`:$/ { name = $NF; gsub("[`:]", "", name); next }
         NF { name = "" }' "$top/$1"
 }
 
@@ -70,16 +71,15 @@ lacks() {
     *build.py* | rt\ * | dist/prove.sh* | dist/update.sh* | .ci/* | export\ PATH*) echo "it needs the kit" ;;
     *apt-get* | rustup*) echo "it needs a network" ;;
     *' FILE'* | *PROGRAM* | *OUT* | *' NAME'* | *' OP'* | *myhost*) echo "it names the reader's own" ;;
-    *LOOP/*) echo "a step of GUESTS or of its kit" ;;
     *'-m wasmloop'*)
-        if [ ! -d python ]; then echo "the package is not installed: there is no pip"
+        if [ ! -d "$room/python" ]; then echo "the package is not installed: there is no pip"
         elif [[ $1 == *wasmloop.ask* ]] && ! has wasm-opt; then echo "there is no wasm-opt"
         elif [[ $1 == *wasmloop.fuzz* ]] && ! ls "$(clang -print-runtime-dir 2> /dev/null)"/libclang_rt.fuzzer* > /dev/null 2>&1; then echo "there is no libFuzzer"
         elif [[ $1 == *--debug* ]] && ! has llvm-symbolizer; then echo "there is no llvm-symbolizer"; fi ;;
-    pip\ * | python3\ first.py* | python3\ bill.py*) has pip && [ -f dist/libwasmloop.so.0 ] || echo "there is no pip, or no library in dist/" ;;
+    pip\ * | python3\ first.py* | python3\ bill.py*) has pip && [ -f "$room/dist/libwasmloop.so.0" ] || echo "there is no pip, or no library in dist/" ;;
     *pkg-config*) has pkg-config || echo "there is no pkg-config" ;;
-    PREFIX=* | *first* | *libwasmloop*) has cc && [ -f dist/libwasmloop.a ] || echo "there is no cc, or no library in dist/" ;;
-    *cargo*) has cargo && [ -f dist/libwasmloop.a ] || echo "there is no cargo, or no library in dist/" ;;
+    PREFIX=* | *first.c* | ./first* | *libwasmloop*) has cc && [ -f "$room/dist/libwasmloop.a" ] || echo "there is no cc, or no library in dist/" ;;
+    *cargo*) has cargo && [ -f "$room/dist/libwasmloop.a" ] || echo "there is no cargo, or no library in dist/" ;;
     python3\ -m\ venv*) python3 -c 'import ensurepip' 2> /dev/null || echo "there is no venv" ;;
     *clang* | *wasm-ld* | examples/build.sh*) { has clang && has wasm-ld; } || echo "there is no clang or no wasm-ld" ;;
     esac
@@ -93,12 +93,11 @@ why_not() {
 }
 
 run() {
-    local page=$1 command=$2 told=$3 why printed
+    local page=$1 command=${2//LOOP\//$room/} told=$3 why printed
     why=$(why_not "$command")
     if [ -n "$why" ]; then leave "$page: $command" "$why"; return; fi
     count=$((count + 1))
     [ -z "$tell" ] || echo "run: $page: $command${told:+: $told}"
-    command=${command//\/my\/prefix/$room/prefix}
     # (a variable is for the commands behind it)
     if [[ $command == export\ * ]]; then eval "$command"; return; fi
     printed=$(eval "( $command )" 2> problem)
@@ -106,7 +105,7 @@ run() {
     0 | 3 | 4) ;;
     *) fail "$page: $command"; cat problem; return ;;
     esac
-    if [[ $command == python3\ -m\ venv* ]]; then export PATH="$room/env/bin:$PATH"; fi
+    if [[ $command == python3\ -m\ venv* ]]; then export PATH="$PWD/env/bin:$PATH"; fi
     case $told in
     done\ * | accepted | loop\ * | return\ * | [0-9]* | "{"*) [[ $printed == "${told%..}"* || $told == "$printed"* ]] || fail "$page: $command: it prints $printed" ;;
     esac
@@ -117,16 +116,26 @@ block() {
     awk -v fence="\`\`\`$2" -v number="${3:-1}" '$0 == fence { inside = ++count == number; next } /^```/ { if (inside) exit } inside' "$top/$1"
 }
 
-mkdir guest
-block README.md c > guest/tick.c
-for page in README.md docs/COMMANDS.md docs/EMBEDDING.md docs/DEBUGGING.md examples/plugins/README.md examples/README.md examples/libraries/README.md examples/kit/ask/README.md; do
-    [ -f "$top/$page" ] || continue
-    files "$page"
+# runs the commands of a page in this folder
+run_page() {
+    local command told
+    files "$1"
     while IFS=$'\t' read -r command told; do
         case $command in
-        ./* | wasmloop\ * | cc\ * | PREFIX=* | export\ PKG_CONFIG_PATH=* | pip\ * | python3\ * | examples/* | cd\ * | dist/* | sh\ * | clang\ * | wasm-ld\ *) run "$page" "$command" "$told" ;;
+        ./* | LOOP/* | wasmloop\ * | cc\ * | PREFIX=* | export\ PKG_CONFIG_PATH=* | pip\ * | python3\ * | examples/* | cd\ * | dist/* | sh\ * | clang\ * | wasm-ld\ * | cargo\ *)
+            run "$1" "$command" "$told" ;;
         esac
-    done < <(commands "$page")
+    done < <(commands "$1")
+}
+
+for page in capi/python/README.md capi/rust/README.md docs/EMBEDDING.md docs/COOKBOOK.md; do
+    mkdir -p "empty/$page" && cd "empty/$page" && run_page "$page"
+    cd "$room" || exit 1
+done
+mkdir guest
+block README.md c > guest/tick.c
+for page in README.md docs/COMMANDS.md docs/DEBUGGING.md examples/plugins/README.md examples/README.md examples/libraries/README.md examples/kit/ask/README.md; do
+    [ ! -f "$top/$page" ] || run_page "$page"
 done
 
 # the example of each command's help
@@ -141,15 +150,12 @@ says() {
 }
 says README.md './wasmloop work examples/sha256.wasm 0 616263' 'done 3 bytes 32 ba7816bf8f01cfea'
 says docs/COMMANDS.md './wasmloop check examples/seven.wasm' 'accepted'
-crc=$(./wasmloop work examples/crc32.wasm 0 616263 | cut -d ' ' -f 2)
-[ ! -x first ] || [ "$(./first examples/crc32.wasm)" = "$crc" ] || fail "docs/EMBEDDING.md: first.c"
-[ ! -d python ] || [ "$(python3 first.py)" = "$crc" ] || fail "docs/EMBEDDING.md: first.py"
 
-# snippet NAME COMMAND: one of EMBEDDING's further blocks, which stands in a file of that name
+# snippet PAGE NAME COMMAND: a command over blocks of a page, in the folder of its commands
 snippet() {
     count=$((count + 1))
     # shellcheck disable=SC2086
-    $2 > said 2>&1 || { fail "docs/EMBEDDING.md: $1"; cat said; }
+    (cd "empty/$1" && $3) > said 2>&1 || { fail "$1: $2"; cat said; }
 }
 if has cc; then
     hosts=0 number=2
@@ -158,22 +164,30 @@ if has cc; then
         # (a block without a handle is a guest, which the page's commands compile)
         if grep -q wasmloop_handle "snippet$number.c"; then
             hosts=$((hosts + 1))
-            snippet "block $number in C" "cc -std=c99 -Wall -Werror -Icapi/include -c snippet$number.c"
+            snippet docs/EMBEDDING.md "block $number in C" "cc -std=c99 -Wall -Werror -I$room/capi/include -c $room/snippet$number.c"
         fi
         number=$((number + 1))
     done
-    [ $hosts = 5 ] || fail "docs/EMBEDDING.md has $hosts blocks of a host in C behind the first, not 5"
+    [ $hosts = 4 ] || fail "docs/EMBEDDING.md has $hosts blocks of a host in C behind the first, not 4"
 fi
-if [ -d python ] && [ -f counter.wasm ]; then
-    { printf 'from wasmloop import Module\nmodule = Module(open("counter.wasm", "rb").read())\n'; block docs/EMBEDDING.md python 2; } > snippet.py
-    grep -q run_for snippet.py || fail "docs/EMBEDDING.md has no block 2 in Python"
-    snippet "block 2 in Python" "python3 snippet.py"
+if [ -d python ] && [ -f empty/docs/EMBEDDING.md/counter.wasm ]; then
+    { printf 'from wasmloop import Module\nmodule = Module(open("counter.wasm", "rb").read())\n'; block docs/EMBEDDING.md python; } > snippet.py
+    grep -q run_for snippet.py || fail "docs/EMBEDDING.md has no block 1 in Python"
+    snippet docs/EMBEDDING.md "block 1 in Python" "python3 $room/snippet.py"
 fi
-if [ -f main.rs ] && has cargo; then
-    mkdir -p rust_host/src && mv main.rs rust_host/src
-    printf '[package]\nname = "first"\nversion = "0.1.0"\nedition = "2021"\n[dependencies]\nwasmloop = { path = "%s" }\n' "$room/capi/rust" > rust_host/Cargo.toml
-    snippet "main.rs" "cargo run -q --offline --manifest-path rust_host/Cargo.toml"
-    [ "$(cat said)" = "$crc" ] || fail "docs/EMBEDDING.md: main.rs prints $(cat said)"
+if [ -d python ] && [ -f empty/docs/COOKBOOK.md/notes.wasm ]; then
+    for number in 1 2 3 4; do block docs/COOKBOOK.md python $number; done | sed "s|LOOP/|$room/|" > cook.py
+    [ "$(grep -c assert cook.py)" = 5 ] && [ -z "$(block docs/COOKBOOK.md python 5)" ] || fail "docs/COOKBOOK.md has other than four blocks with five assertions"
+    snippet docs/COOKBOOK.md "its program" "python3 $room/cook.py"
+fi
+# each tool of the package, which is a file that runs by itself, has one line in the list, and a page names it
+if [ -d python ]; then
+    count=$((count + 1))
+    python3 -m wasmloop > listed
+    for tool in $(cd python/wasmloop && grep -l '^if __name__ == "__main__"' [!_]*.py); do
+        [ "$(grep -c "wasmloop ${tool%.py} " listed)" = 1 ] || fail "the list has not one line for $tool"
+        grep -qw "wasmloop\.${tool%.py}" "$top"/docs/*.md "$top"/examples/kit/README.md "$top"/examples/kit/ask/README.md || fail "no page names $tool"
+    done
 fi
 "$top/examples/guests_test.sh" "$program" || wrong=$((wrong + 1))
 echo "pages: $count commands, $left left out, $wrong wrong"

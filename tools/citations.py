@@ -178,8 +178,9 @@ def prose() -> dict[str, str]:
 
 def pages() -> list[Path]:
     """The pages of the repository; not those that builds leave in their folders."""
-    found = [TOP / 'README.md', TOP / 'SECURITY.md', *(page for folder in ('docs', 'examples', 'bench') for page in sorted((TOP / folder).rglob('*.md')))]
-    return [page for page in found if not {'out', 'target'} & set(page.relative_to(TOP).parts)]
+    folders = ('docs', 'examples', 'bench', 'capi', 'hosts', 'tests', 'trials')
+    found = [*sorted(TOP.glob('*.md')), *(page for folder in folders for page in sorted((TOP / folder).rglob('*.md')))]
+    return [page for page in found if not {'out', 'target', 'node_modules'} & set(page.relative_to(TOP).parts)]
 
 
 def anchors(page: Path) -> set[str]:
@@ -202,7 +203,7 @@ def broken_links() -> Iterator[str]:
 def template() -> str:
     """The template of pull requests, of the table of changes."""
     table = read(CHANGES).split('\n## A change')[1].split('\n## ')[0]
-    rows = re.findall(r"^\| ([^|]+) \| ([^|]+) \|.*\|$", re.sub(r"\[([^]]*)\]\([^)]*\)", r"\1", table), re.M)
+    rows = re.findall(r"^([^|\n]+) \| ([^|\n]+) \| .*$", re.sub(r"\[([^]]*)\]\([^)]*\)", r"\1", table), re.M)
     return ASKED + ''.join(f"- [ ] {changed}: {run}\n" for changed, run in rows[1:])
 
 

@@ -60,7 +60,7 @@ def value_of(sources: Sources, word: str) -> Optional[int]:
 def rows(sources: Sources) -> Iterator[tuple[str, list[int], list[str]]]:
     """The rows that name constants: what they are of, their numbers, and the constants."""
     for line in sources.text(PAGE).split("\n"):
-        cells = [cell.strip() for cell in line.strip("|").split("|")] if line.startswith("|") else []
+        cells = [cell.strip() for cell in line.split("|")]
         if len(cells) == 4:
             named = re.findall(r"`((?:\w+::)?[A-Z][A-Z_0-9]+)`", cells[3])
             yield from ([(cells[0], numbers_of(cells[1]), named)] if named else [])

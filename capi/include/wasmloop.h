@@ -92,8 +92,8 @@ int wasmloop_load(const uint8_t *bytes, size_t length, wasmloop_handle *module, 
  * the whole sentence. NONE: they are not rejected. RANGE: `length` or `room` is above PTRDIFF_MAX. */
 int wasmloop_explain(const uint8_t *bytes, size_t length, char *into, size_t room, uint64_t *count);
 
-/* Loads a module as wasmloop_load does. REFUSED: it also writes the sentence of wasmloop_explain to `into`: at most `room` bytes, without a NUL, and
- * its whole length to *count; the bytes are not validated again for it. RANGE: `length` or `room` is above PTRDIFF_MAX. */
+/* Loads a module as wasmloop_load does, or says why not. REFUSED: it also writes the sentence of wasmloop_explain to `into`: at most `room` bytes,
+ * without a NUL, and its whole length to *count; the bytes are not validated again for it. RANGE: `length` or `room` is above PTRDIFF_MAX. */
 int wasmloop_load_told(const uint8_t *bytes, size_t length, wasmloop_handle *module, wasmloop_fault *fault, char *into, size_t room, uint64_t *count);
 
 /* Creates a second handle to the same module, for another thread. The module is reference-counted, not copied. */
@@ -110,6 +110,7 @@ typedef struct wasmloop_shape {
     uint64_t imports;    /* the number of imported functions, which do nothing and return -1 in an instance */
 } wasmloop_shape;
 
+/* Writes what a module exports, imports and has to *shape. */
 int wasmloop_shape_of(const wasmloop_handle *module, wasmloop_shape *shape);
 
 /* Writes a warning about what a module lacks to run on a loop, in the words of `wasmloop check`, to `into`: at most `room` bytes, without a
@@ -139,11 +140,12 @@ typedef struct wasmloop_task {
     uint32_t depth; /* the call-depth limit, 1 to 128 */
 } wasmloop_task;
 
-/* wasmloop_work runs a module's uv_work in this thread, without a loop, and leaves the completed job in an empty handle; read it with
- * wasmloop_job_about and wasmloop_job_reply. It is wasmloop_job_new followed by wasmloop_job_run, which you can call in another thread.
- * `length` is at most 65,536, and the bytes are copied; `bytes` may be NULL if it is 0. RANGE: the length or the depth is out of range.
- * NO_WORK: the module exports no uv_work. */
+/* Runs a module's uv_work in this thread, without a loop. It leaves the completed job in an empty handle; read it with wasmloop_job_about and
+ * wasmloop_job_reply. It is wasmloop_job_new followed by wasmloop_job_run. `length` is at most 65,536, and the bytes are copied; `bytes` may be
+ * NULL if it is 0. RANGE: the length or the depth is out of range. NO_WORK: the module exports no uv_work. */
 int wasmloop_work(const wasmloop_handle *module, const wasmloop_task *task, const uint8_t *bytes, size_t length, wasmloop_handle *job);
+
+/* Creates a job that runs uv_work, in this thread or another. The arguments and the statuses are those of wasmloop_work. */
 int wasmloop_job_new(const wasmloop_handle *module, const wasmloop_task *task, const uint8_t *bytes, size_t length, wasmloop_handle *job);
 
 /* Runs a job, in any thread. It touches no other handle. KIND: the job has already run. */
@@ -177,9 +179,11 @@ typedef struct wasmloop_about {
 /* Describes a job, before, between or after its slices. A paused job is one that is not over and has used fuel. */
 int wasmloop_job_about(wasmloop_handle *job, wasmloop_about *about);
 
-/* Copy a job's input, or its reply, to `into`: at most `room` bytes. *count is the whole length. wasmloop_job_reply returns NONE unless the
- * outcome is WASMLOOP_WORK_DONE. RANGE: `room` is above PTRDIFF_MAX. */
+/* Copies a job's input to `into`: at most `room` bytes. *count is the whole length. RANGE: `room` is above PTRDIFF_MAX. */
 int wasmloop_job_input(wasmloop_handle *job, uint8_t *into, size_t room, uint64_t *count);
+
+/* Copies a job's reply to `into`: at most `room` bytes. *count is the whole length. NONE: the outcome is not WASMLOOP_WORK_DONE. RANGE: `room` is
+ * above PTRDIFF_MAX. */
 int wasmloop_job_reply(wasmloop_handle *job, uint8_t *into, size_t room, uint64_t *count);
 
 /* Returns the reply in place, without a copy. The bytes stay readable until the job is dropped or accepted; if *count is 0, do not read
@@ -242,13 +246,13 @@ typedef struct wasmloop_ended {
  * In no other case is *ended written. */
 int wasmloop_instance(const wasmloop_handle *module, const wasmloop_call_limits *limits, wasmloop_handle *instance, wasmloop_ended *ended);
 
-/* Calls the function exported as `name` with `count` arguments, an i32 as a number below 2^32 (pass -1 as (uint32_t)-1); `args` may be NULL
+/* Calls the function exported as `name`. It gets `count` arguments, an i32 as a number below 2^32 (pass -1 as (uint32_t)-1); `args` may be NULL
  * if `count` is 0. OK: it was called, and *ended says how it ended. A trap, the depth limit or running out of fuel does not roll anything
  * back, and you may call the instance again. NONE: no function has that name. ARGUMENTS: it takes another number of arguments, or one is out
  * of its type's range. RANGE: the depth is not 1 to 128. Otherwise nothing changes, and *ended is not written. */
 int wasmloop_call(wasmloop_handle *instance, const char *name, const uint64_t *args, size_t count, const wasmloop_call_limits *limits, wasmloop_ended *ended);
 
-/* Calls the function that is export `number` of the module, as wasmloop_call does; no name is looked up. NONE: it is no function, or there is
+/* Calls the function that is export `number` of the module: as wasmloop_call does, but no name is looked up. NONE: it is no function, or there is
  * no such export. */
 int wasmloop_call_at(wasmloop_handle *instance, uint64_t number, const uint64_t *args, size_t count, const wasmloop_call_limits *limits, wasmloop_ended *ended);
 
@@ -258,22 +262,22 @@ int wasmloop_call_at(wasmloop_handle *instance, uint64_t number, const uint64_t 
  * and wasmloop_call_end returns KIND. */
 int wasmloop_call_begin(wasmloop_handle *instance, const char *name, const uint64_t *args, size_t count, const wasmloop_call_limits *limits);
 
-/* Runs a slice of the call that wasmloop_call_begin began, in any thread: at most `units` units of fuel, at least 1. Sets *over to 1 if the
+/* Runs a slice of a call that has begun, in any thread: at most `units` units of fuel, at least 1. Sets *over to 1 if the
  * call is over: *ended, the results, the fuel and the memory are those of wasmloop_call, and you may call the instance again. Sets *over to 0
  * if it has used all the units and has fuel left: it may continue, in this thread or another. RANGE: `units` is 0. KIND: no call is in
  * progress. In no other case is *over or *ended written. */
 int wasmloop_call_run_for(wasmloop_handle *instance, uint64_t units, uint32_t *over, wasmloop_ended *ended);
 
-/* Begins a call of the function that is export `number`, as wasmloop_call_at does, and runs its first slice, as wasmloop_call_run_for does. A call that
- * is over within `units` costs little more than wasmloop_call_at, and a function of at most 8 parameters and 1 result needs no allocation. Sets *over to 1 if
- * the call is over; else to 0: then continue it with wasmloop_call_run_for or end it. NONE, ARGUMENTS: as for wasmloop_call_at. RANGE: the depth is not
- * 1 to 128, or `units` is 0. KIND: a call is in progress. In no case but OK is *over written, and *ended only where *over is 1. */
+/* Begins a call by number and runs its first slice: as wasmloop_call_at and wasmloop_call_run_for do. A call that is over within `units` costs little
+ * more than wasmloop_call_at, and a function of at most 8 parameters and 1 result needs no allocation. Sets *over to 1 if the call is over; else to
+ * 0: then continue it with wasmloop_call_run_for or end it. NONE, ARGUMENTS: as for wasmloop_call_at. RANGE: the depth is not 1 to 128, or `units` is
+ * 0. KIND: a call is in progress. In no case but OK is *over written, and *ended only where *over is 1. */
 int wasmloop_call_for(wasmloop_handle *instance, uint64_t number, const uint64_t *args, size_t count, const wasmloop_call_limits *limits, uint64_t units,
     uint32_t *over, wasmloop_ended *ended);
 
-/* Ends the call that wasmloop_call_begin or wasmloop_call_for began, before it is over, and keeps the instance: *ended is SPENT, with the fuel that the call has
- * used. The memory and the globals are those of wasmloop_call with exactly that much fuel, wasmloop_stop reports where the call stood, or NONE if
- * nothing of it has run, and you may call the instance again. KIND: no call is in progress; then *ended is not written. */
+/* Ends a call before it is over, and keeps the instance: one that wasmloop_call_begin or wasmloop_call_for began. *ended is SPENT, with the fuel that
+ * the call has used. The memory and the globals are those of wasmloop_call with exactly that much fuel, wasmloop_stop reports where the call stood,
+ * or NONE if nothing of it has run, and you may call the instance again. KIND: no call is in progress; then *ended is not written. */
 int wasmloop_call_end(wasmloop_handle *instance, wasmloop_ended *ended);
 
 /* wasmloop_size, wasmloop_read and wasmloop_global inspect the instance of a handle: an instance as its last call left it, however that ended;
@@ -287,7 +291,7 @@ int wasmloop_size(wasmloop_handle *handle, uint64_t *bytes);
  * above PTRDIFF_MAX. `into` may be NULL if `length` is 0. */
 int wasmloop_read(wasmloop_handle *handle, uint32_t at, uint8_t *into, size_t length);
 
-/* Copies `length` bytes into the memory of an instance that is in no call, from address `at`. RANGE: as for wasmloop_read. `from` may be NULL if
+/* Copies `length` bytes into the memory, from address `at`. The instance is in no call. RANGE: as for wasmloop_read. `from` may be NULL if
  * `length` is 0. */
 int wasmloop_write(wasmloop_handle *instance, uint32_t at, const uint8_t *from, size_t length);
 
@@ -358,7 +362,7 @@ typedef struct wasmloop_turned {
     uint32_t zero;      /* 0 */
 } wasmloop_turned;
 
-/* Takes steps until one of these holds; told->did is the last step:
+/* Takes steps to the end of an iteration, or sooner: until one of these holds. told->did is the last step:
  *     the loop enters its timers phase: the iteration is over, and told->wait is the poll timeout, 0 if a callback ran in it;
  *     a callback emits values, for wasmloop_emits, or does not return;
  *     `most_callbacks` callbacks have run in this call; or
@@ -367,12 +371,13 @@ typedef struct wasmloop_turned {
  * iteration. RANGE: `most_callbacks` is 0. */
 int wasmloop_turn(wasmloop_handle *loop, uint32_t most_callbacks, wasmloop_turned *told);
 
-/* Takes steps as wasmloop_turn does, and pauses once the callbacks of this call have together used `units` units of fuel, at least 1: it bounds
- * the time of the call. Sets *over to 1 if the turn is over, by one of wasmloop_turn's conditions, of which `most_callbacks` counts the callbacks
- * that end in this call. Sets *over to 0 if it is not: call it again, without sleeping. Then a callback is paused, as in wasmloop_step_for; or
- * none is, and each call on the loop works, if the last unit ended a callback or an allocation failed after the first step. told->did is the last
- * step that is over, unchanged if no step ended in this call, and told->callbacks counts those. The steps, from call to call, are those of wasmloop_step. A slice of a callback may use fewer
- * units, as in wasmloop_step_for. RANGE: `most_callbacks` or `units` is 0. MEMORY: the first step could not begin. */
+/* Takes steps as wasmloop_turn does, for at most `units` units of fuel: it pauses once the callbacks of this call have together used them, at least
+ * 1, which bounds the time of the call. Sets *over to 1 if the turn is over, by one of wasmloop_turn's conditions, of which `most_callbacks` counts
+ * the callbacks that end in this call. Sets *over to 0 if it is not: call it again, without sleeping. Then a callback is paused, as in
+ * wasmloop_step_for; or none is, and each call on the loop works, if the last unit ended a callback or an allocation failed after the first step.
+ * told->did is the last step that is over, unchanged if no step ended in this call, and told->callbacks counts those. The steps, from call to call,
+ * are those of wasmloop_step. A slice of a callback may use fewer units, as in wasmloop_step_for. RANGE: `most_callbacks` or `units` is 0. MEMORY:
+ * the first step could not begin. */
 int wasmloop_turn_for(wasmloop_handle *loop, uint32_t most_callbacks, uint64_t units, uint32_t *over, wasmloop_turned *told);
 
 /* Copies the values that the last callback emitted to `into`: at most `room` values. *count is how many there were. RANGE: `room` is above
@@ -400,6 +405,7 @@ typedef struct wasmloop_standing {
     uint64_t outstanding; /* the number of outstanding requests, at most 32 */
 } wasmloop_standing;
 
+/* Writes whether a loop is alive or has failed, and how many requests are outstanding, to *standing. */
 int wasmloop_standing_of(wasmloop_handle *loop, wasmloop_standing *standing);
 
 /* ---- The work requests of a loop ---- */
@@ -453,8 +459,8 @@ typedef struct wasmloop_place {
  * wasmloop_stop. RANGE: `room` is above PTRDIFF_MAX / 24. */
 int wasmloop_stop_places(wasmloop_handle *handle, wasmloop_place *into, size_t room, uint64_t *count);
 
-/* Writes the same backtrace as text ("in function 5 (divide), .. at byte 231; called by function 2 (main) at byte 180") to
- * `into`: at most `room` bytes, without a NUL. *count is the length of the whole text. The reason is in did, about or ended. `bytes` are
+/* Writes the same backtrace as text to `into`: "in function 5 (divide), .. at byte 231; called by function 2 (main) at byte 180", at most
+ * `room` bytes, without a NUL. *count is the length of the whole text. The reason is in did, about or ended. `bytes` are
  * those that the module was loaded from, or NULL with a `length` of 0: then those that it keeps are read. Function indexes include the imports.
  * REFUSED: there is a backtrace, but the bytes are another module's. NONE: as for wasmloop_stop. RANGE: `length` or `room` is above PTRDIFF_MAX. */
 int wasmloop_stop_told(const uint8_t *bytes, size_t length, wasmloop_handle *handle, char *into, size_t room, uint64_t *count);
@@ -478,22 +484,31 @@ enum {
     WASMLOOP_ARGUMENTS = 12    /* the wrong number of arguments, or one out of its type's range */
 };
 
-/* Names: "MEMORY" for a status, "division by zero" for a trap, "Opcode" for a fault's stage and code, "return", "trap", "depth" or "spent" for
- * an ending. NULL for a number without a name. The text is never freed. */
+/* A status's name, such as "MEMORY". The texts of this call and of the next five are never freed; NULL: the number has none. */
 const char *wasmloop_status_name(int status);
-const char *wasmloop_trap_name(uint32_t trap);
-const char *wasmloop_fault_name(uint32_t stage, uint32_t code);
-const char *wasmloop_ending_name(uint32_t ending);
-const char *wasmloop_outcome_name(uint32_t outcome);
 
-/* A status as a sentence, such as "an allocation failed". NULL for a number without one. The text is never freed. */
+/* A status as a sentence, such as "an allocation failed". */
 const char *wasmloop_status_text(int status);
 
-/* Write how a run ended, for the one who started it: "out of fuel, after 1,000,000 units", "division by zero, after 3 units", "returned, after 1 unit";
- * of a job also "not over yet, after 7 units", "an allocation failed, after 0 units". wasmloop_ended_text takes the numbers of wasmloop_ended or of
- * wasmloop_did, wasmloop_outcome_text those of wasmloop_about. At most `room` bytes go to `into`, without a NUL; *count is the length of the whole text.
+/* A trap's name, such as "division by zero". */
+const char *wasmloop_trap_name(uint32_t trap);
+
+/* The name of a fault, such as "Opcode", by its stage and code. */
+const char *wasmloop_fault_name(uint32_t stage, uint32_t code);
+
+/* An ending's name: "return", "trap", "depth" or "spent". */
+const char *wasmloop_ending_name(uint32_t ending);
+
+/* An outcome's name, such as "done". */
+const char *wasmloop_outcome_name(uint32_t outcome);
+
+/* Writes how a call or a callback ended: "out of fuel, after 1,000,000 units", "division by zero, after 3 units", "returned, after 1 unit". The numbers are
+ * those of wasmloop_ended or wasmloop_did. At most `room` bytes go to `into`, without a NUL; *count is the length of the whole text.
  * wasmloop_stop_told has the place. RANGE: a number has no name, or `room` is above PTRDIFF_MAX. */
 int wasmloop_ended_text(uint32_t ending, uint32_t trap, uint64_t used, char *into, size_t room, uint64_t *count);
+
+/* Writes how a job ended: as wasmloop_ended_text does, by the numbers of wasmloop_about; also "not over yet, after 7 units", "an allocation failed, after 0
+ * units". */
 int wasmloop_outcome_text(uint32_t outcome, uint32_t value, uint64_t used, char *into, size_t room, uint64_t *count);
 
 /* The version of the library, as "0.2.0". The text is never freed. */

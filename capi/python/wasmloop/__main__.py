@@ -9,11 +9,11 @@ from __future__ import annotations
 
 import importlib
 import os
+import re
 import runpy
 import shutil
 import subprocess
 import sys
-import textwrap
 from typing import List, Optional
 
 TOOLS = "cc", "lower", "lines", "record", "replay", "plugin_record", "log", "profile", "cover", "fuzz", "freeze", "ask", "bind"
@@ -27,10 +27,10 @@ def program() -> Optional[str]:
 
 
 def listed(start: str = "python3 -m wasmloop ") -> None:
-    """Prints a line or two for each tool."""
+    """Prints a line for each tool: the first clause of its documentation."""
     for name in TOOLS:
-        doc = (importlib.import_module(f"wasmloop.{name}").__doc__ or "").split("\n\n")[0].replace("\n", " ")
-        print(textwrap.fill(f"{start}{name:15}{doc}", 110, subsequent_indent=" " * (len(start) + 15)))
+        doc = (importlib.import_module(f"wasmloop.{name}").__doc__ or "").replace("\n", " ")
+        print(f"{start}{name:15}{re.split('[.:] ', doc)[0]}")
 
 
 def helped() -> None:

@@ -1,4 +1,4 @@
-"""Makes a plug-in that asks its host questions, of a module that is linked with examples/kit/ask/ask.c.
+"""Makes a plug-in that asks its host questions. The module is linked with examples/kit/ask/ask.c.
 
     python3 -m wasmloop.ask cart.wasm cart.wasm
 

@@ -1,5 +1,5 @@
-"""Runs the start function and an exported function of a guest once, and writes a module that starts in the resulting state: with its
-interpreter set up, its tables filled, its database loaded.
+"""Writes a module that starts where a guest's start function and one of its exports have led: with its interpreter set up, its tables filled,
+its database loaded.
 
     python3 -m wasmloop.freeze guest.wasm --call init -o warm.wasm
     python3 -m wasmloop.freeze lua.wasm --call init --in prelude.lua -o shop.wasm

@@ -1,4 +1,4 @@
-"""Shows where the fuel of a guest goes, by function, line and call path, exactly and the same each time.
+"""Shows where the fuel of a guest goes, by function, line and call path: exactly, and the same each time.
 
     python3 -m wasmloop.profile guest.wasm 0 --in request --svg guest.svg
     python3 -m wasmloop.profile guest.wasm --call add,7 --budget 5000 --budget parse=2000

@@ -1,8 +1,9 @@
 """Tests the server: responses and limits, hostile tenants, a loop, modules that change, shutdown, and hostile clients.
 
 usage: test.py EDGE GUESTS PART..     EDGE: the program; GUESTS: a folder of modules; PART: functions, bounds, end, operators, page (by chromium), python,
-strict (by h11), vectors (of Twisted), attacks (by slowhttptest), clients, hostile (LOAD names the program of bench/load.c), or a number,
-which is the same as clients with that many connections that only stand (else 1,000)
+forms (of requests), strict (by h11), twisted, h11 and llhttp (the requests of their tests; LLHTTP names the folder of llhttp's sources), attacks (by
+slowhttptest), clients, hostile (LOAD names the program of bench/load.c), or a number, which is the same as clients with that many connections
+that only stand (else 1,000)
 """
 import collections
 import concurrent.futures
@@ -752,22 +753,35 @@ def python():
     check(set(got) <= {504, 503}, "the end", got)
 
 
+def by_script(what, script, *words, options=()):
+    """A script that is a client of the server: its last line is printed."""
+    s = Server(*options, hello="type text/plain\n")
+    done = subprocess.run(["/usr/bin/python3", HERE / script, str(s.port), *words], capture_output=True, text=True, check=False)
+    print(*done.stdout.strip().splitlines()[-1:], flush=True)
+    check(done.returncode == 0, what, *(it for it in done.stderr.splitlines() if it.startswith(script[:-3])))
+    s.end()
+
+
+def forms():
+    """Forms of requests that RFC 9112 refuses, and some that it doesn't."""
+    by_script("forms of requests", "forms.py")
+
+
 def strict():
     """A strict client on h11, a parser that others wrote."""
-    s = Server("-t", "60", hello="type text/plain\n")
-    done = subprocess.run(["/usr/bin/python3", HERE / "strict.py", str(s.port)], capture_output=True, text=True, check=False)
-    print(done.stdout.strip())
-    check(done.returncode == 0, "a strict client", done.stderr)
-    s.end()
+    by_script("a strict client", "strict.py", options=("-t", "60"))
 
 
-def vectors():
-    """The requests of Twisted's tests, with Twisted as the judge."""
-    s = Server()
-    done = subprocess.run(["/usr/bin/python3", HERE / "vectors.py", str(s.port)], capture_output=True, text=True, check=False)
-    print(done.stdout.strip())
-    check(done.returncode == 0, "requests of Twisted's tests", done.stderr)
-    s.end()
+def twisted():
+    by_script("requests of Twisted's tests", "vectors.py", "twisted", options=("-t", "2"))
+
+
+def h11():
+    by_script("requests of h11's tests", "vectors.py", "h11", options=("-t", "2"))
+
+
+def llhttp():
+    by_script("requests of llhttp's tests", "vectors.py", "llhttp", os.environ["LLHTTP"], options=("-t", "2"))
 
 
 # ---- hostile clients ----

@@ -8,7 +8,7 @@
 
 enum { IDLE_MS = 60000, LINGER_MS = 2000 };
 
-uint32_t clients, most_clients = 16384;
+uint32_t clients, most_clients = 16384, most_open = UINT32_MAX;
 uint64_t patience = 10000;
 size_t held;
 struct in_addr proxy = { INADDR_NONE };
@@ -308,7 +308,7 @@ static void on_connection(uv_stream_t *stream, int status) {
     bool accepted = uv_accept(stream, (uv_stream_t *)&c->tcp) == 0;
     c->from = accepted ? holder_of(c) : &of_proxy;
     c->from->clients++;
-    if (!accepted) {
+    if (!accepted || clients > most_open) {
         leave(c);
         return;
     }

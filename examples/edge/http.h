@@ -57,7 +57,7 @@ struct client {
     int32_t request;                  /* its number in the tenant's loop, or 0 */
 };
 
-extern uint32_t clients, most_clients;
+extern uint32_t clients, most_clients, most_open; /* most_open: how many may be open, with those that are told that they are too many */
 extern uint64_t patience; /* how many milliseconds a request may take to arrive, and its answer to be received */
 extern size_t held;
 extern struct in_addr proxy; /* an address without a share of its own: its clients are many */

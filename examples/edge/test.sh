@@ -84,7 +84,7 @@ for how; do
     plain)
         CFLAGS=-Werror "$here/build.sh" "$out/plain" "$library" || exit 1
         "$here/bench/plain.sh" "$out/over_c" || { say 'FAILED: bench/plain.sh'; failed=1; }
-        part "$out/plain" "$out/guests" functions bounds end operators clients $others
+        part "$out/plain" "$out/guests" functions bounds starts end operators clients $others
         if has chromium; then part "$out/plain" "$out/guests" page; else left_out 'the page: there is no chromium'; fi
         soak "$out/plain" 10
         leak 10

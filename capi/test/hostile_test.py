@@ -14,7 +14,7 @@ from pathlib import Path
 
 import expecting
 from expecting import TOP, run, same
-from wasmloop import Error, Module, _tool, ask, lines, log, profile, record, runs, served, wasm
+from wasmloop import Error, Module, __main__ as tools, _tool, ask, lines, log, profile, record, runs, served, wasm
 from wasmloop.wasm import CODE, EXPORT, FUNCTION, MEMORY, TABLE, TYPE, i32, sized, text, u, vec
 
 OUT = Path(sys.argv[1])
@@ -216,7 +216,22 @@ def statuses():
             same(f"{script} {words}: its status", done.returncode != 0, True)
 
 
-PARTS = numbers, long_names, logs, questions, unlike, broken, symbolizers, siblings, floods, statuses
+def pipes():
+    """A tool whose reader is gone ends quietly, with status 1: its list, its help, and what it found."""
+    env = {name: value for name, value in os.environ.items() if name != "PYTHONUNBUFFERED"}
+    plain = OUT / "plain.wasm"
+    plain.write_bytes(module([b""], {"uv_work": 0}, [b"\x60\1\x7f\1\x7f"], parts={CODE: vec([sized(b"\0" + i32(0) + END)])}))
+    found = ("profile", plain), ("cover", plain), ("profile", plain, "--folded", "-"), ("lower", plain, "-"), ("bind", plain.with_name("one.h"))
+    plain.with_name("one.h").write_text("int f(int a);\n")
+    for words in ((), *((it, "--help") for it in tools.TOOLS), *found):
+        reads, writes = os.pipe()
+        os.close(reads)
+        done = subprocess.run([sys.executable, "-m", "wasmloop", *map(str, words)], stdout=writes, stderr=subprocess.PIPE, text=True, env=env, check=False)
+        os.close(writes)
+        same(f"{' '.join(map(str, words))}, read by nobody", (done.returncode, done.stderr), (1, ""))
+
+
+PARTS = numbers, long_names, logs, questions, unlike, broken, symbolizers, siblings, floods, statuses, pipes
 
 
 def main():

@@ -13,6 +13,8 @@ import subprocess
 import sys
 import textwrap
 
+from . import _tool
+
 TOOLS = "cc", "lower", "lines", "record", "replay", "plugin_record", "log", "profile", "cover", "fuzz", "freeze", "ask", "bind"
 
 
@@ -42,7 +44,7 @@ def helped():
 def command(words):
     """Runs a tool, or the program in place of this process."""
     if words[0] in TOOLS:
-        importlib.import_module("wasmloop._tool").START = "wasmloop "
+        _tool.START = "wasmloop "
         sys.argv[1:] = words[1:]
         runpy.run_module(f"wasmloop.{words[0]}", run_name="__main__")
         return 0
@@ -53,13 +55,18 @@ def command(words):
     os.execv(program(), ["wasmloop", *words])
 
 
-def main():
-    """`wasmloop`, as the wheel installs it."""
+def chosen():
+    """Does what the words of `wasmloop` ask for."""
     words = sys.argv[1:]
     if words in ([], ["help"], ["--help"], ["-h"]):
         return helped()
     return command([words[1], "--help"] if words[0] == "help" and words[1] in TOOLS else words)
 
 
+def main():
+    """`wasmloop`, as the wheel installs it."""
+    _tool.run("wasmloop", chosen)
+
+
 if __name__ == "__main__":
-    sys.exit(command(sys.argv[1:]) if sys.argv[1:] else listed())
+    _tool.run("wasmloop", lambda: command(sys.argv[1:]) if sys.argv[1:] else listed())

@@ -81,11 +81,19 @@ def near(file):
     return file if short.startswith("../..") else short
 
 
+def status_of(main):
+    """The status that `main` returns or exits with, as argparse does behind its help."""
+    try:
+        return main()
+    except SystemExit as why:
+        return why.code
+
+
 def run(tool, main):
-    """Ends the process with the status that `main` returns, or with that of the exception it raises."""
+    """Ends the process with the status that `main` returns, or with that of the exception it raises; quietly, if nobody reads its output."""
     warnings.simplefilter("ignore", InertImports)       # a tool itself reports what a guest calls
     try:
-        status = main()
+        status = status_of(main)
         sys.stdout.flush()
     except Failed as why:
         status = why.status

@@ -14,6 +14,7 @@ import sys
 
 from . import ENTERED, FAILED, NOT_RUN, OVER, RAN, SKIPPED, TIMERS, WORK_DONE, Loop, Module, _tool, lines
 
+MOST_STEPS = 10_000                                     # that a log has at a time
 PHASES, KINDS, WORKERS = "begin timers idle poll check closing".split(), "start main timer idle after async check close".split(), 16
 HELP = "n or Enter: next; b: back; g N: go to line N; c: continue to the failure or the end; w: where it failed; q: quit"
 
@@ -64,7 +65,7 @@ def failure(did, where, depth):
 
 class Replay:
     """A loop that is driven by a record. `at` counts the rows so far, `log` has the lines of the last one, `told` its message; `failed` is set once
-    a callback did not return, and `full` if the record ended at its limit."""
+    a callback did not return, and `full` if the record ended at its limit. A row of many steps is run in parts: `left` counts those to come."""
 
     def __init__(self, rows):
         try:
@@ -74,12 +75,16 @@ class Replay:
         except (TypeError, ValueError) as why:
             raise Wrong(f"line 1 of the record: {why}") from None
         self.rows, self.at, self.jobs, self.log, self.failed, self.full, self.told, self.depth = rows, 1, {}, [], False, False, "", depth
+        self.left = 0
 
     def next(self):
-        """Runs the next row. Returns False if there is none."""
-        if self.at == len(self.rows):
+        """Runs the next row, or a part of it. Returns False if there is none."""
+        if self.at == len(self.rows) and not self.left:
             return False
         self.log, self.told = [], ""
+        if self.left:
+            self._step(self.left)
+            return True
         self.at += 1
         word, *more = self.rows[self.at - 1]
         method = getattr(self, f"_{word}", None)
@@ -95,10 +100,10 @@ class Replay:
         if was != now:
             raise Differs(f"line {self.at} of the record: {what} was {was}, and now is {now}")
 
-    def _step(self, count=1):
-        for _ in range(count):
-            did = self._one_step()
-        return did
+    def _step(self, count):
+        self.left = max(count - MOST_STEPS, 0)
+        for _ in range(min(count, MOST_STEPS)):
+            self._one_step()
 
     def _full(self):
         self.full = True
@@ -212,7 +217,7 @@ class Stepper:
         """Goes to this line of the record."""
         if line < self.replay.at:
             self.replay, self.last = Replay(self.rows), ""
-        while self.replay.at < line and self.replay.next():
+        while (self.replay.at < line or self.replay.left) and self.replay.next():
             self.last = self.replay.told or self.last
 
     def show(self):

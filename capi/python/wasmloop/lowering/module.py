@@ -9,6 +9,7 @@ SECTIONS = dict(zip("types imports functions tables memories globals exports sta
                     range(1, 12)))
 DATA_COUNT, TAGS = 12, 13
 ORDER = (1, 2, 3, 4, 5, TAGS, 6, 7, 8, 9, DATA_COUNT, 10, 11)
+MOST_PARAMETERS, MOST_RESULTS = 256, 16                # the host's limits
 PASSIVE, EXPLICIT, EXPRESSIONS = 1, 2, 4               # what the first number of a segment says
 EXPORTED = "function", "table", "memory", "global"
 KINDS = {I32_CONST: I32, I64_CONST: I64, F32_CONST: F32, F64_CONST: F64}
@@ -53,7 +54,7 @@ class Module:
         for kind in (*self.functions, *(kind for _, _, kind in self.imports)):
             self.must_have("type", kind)
         self.exports = self.read("exports", self.exported)
-        self.elements = []
+        self.elements, self.filled = [], set()         # filled: the places of the table that a segment has
         self.element_count = len(self.read("elements", self.element_segment))
         self.bodies = self.read("code", self.body)
         self.data, self.passive = [], {}
@@ -107,7 +108,10 @@ class Module:
     def type(r):
         if r.byte() != 0x60:
             raise Refused("a type that is no function's")
-        return tuple(bytes(value_type(t) for t in r.name()) for _ in range(2))
+        kind = tuple(bytes(value_type(t) for t in r.name()) for _ in range(2))
+        if len(kind[0]) > MOST_PARAMETERS or len(kind[1]) > MOST_RESULTS:
+            raise Refused(f"a type of {len(kind[0])} parameters and {len(kind[1])} results: {MOST_PARAMETERS} and {MOST_RESULTS} at most")
+        return kind
 
     @staticmethod
     def imported(r):
@@ -195,6 +199,7 @@ class Module:
         for i, function in enumerate(functions + [None]):
             if function is not None:
                 run.append(function)
+                self.filled.add(at + i)
             elif run or not functions:
                 self.elements.append((at + i - len(run), run))
                 run = []
@@ -209,8 +214,7 @@ class Module:
     def look_at_nulls(self, at, functions):
         """A null is left out, which is right where nothing else stands, and where the segment fits."""
         least = Reader(self.tables[0], 2).u() if self.tables else 0
-        filled = {a + i for a, those in self.elements for i in range(len(those))}
-        if at + len(functions) > least or any(f is None and at + i in filled for i, f in enumerate(functions)):
+        if at + len(functions) > least or any(f is None and at + i in self.filled for i, f in enumerate(functions)):
             raise Refused("a null in an element segment that doesn't fit the table, or over an earlier element")
 
     def data_segment(self, r):

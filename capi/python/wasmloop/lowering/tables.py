@@ -4,7 +4,10 @@ Two types of functions may become one where floats become integers, and a call t
 type that isn't the only one of its kind gets marks, which are further parameters: a call gives zeros for them, and the table has a
 function that takes them and calls the one that was there.
 """
+import collections
+
 from .binary import CALL_INDIRECT, I32, LOWERED, Refused, constant, lowered, operations, u, vec
+from .module import MOST_PARAMETERS
 
 CALLBACK = bytes([I32]), b""                           # what the host calls through the table
 
@@ -18,15 +21,17 @@ class Marks:
             self.counts = {}
             return
         called, placed = called_types(module), {module.types[module.type_of(f)] for _, those in module.elements for f in those}
-        self.counts, taken = {}, {lowered(kind) for kind in called | placed}
+        self.counts, alike = {}, collections.Counter(map(lowered, called | placed))
+        taken, next_free = set(alike), collections.Counter()
         for kind in sorted(called | placed):
-            others = {it for it in called | placed if it != kind and lowered(it) == lowered(kind)}
-            if kind == lowered(kind) or not others:
+            if kind == lowered(kind) or alike[lowered(kind)] == 1:
                 continue
-            count = 1
+            count = next_free[lowered(kind)] + 1
             while self.marked(kind, count) in taken:
                 count += 1
-            self.counts[kind] = count
+            if len(kind[0]) + count > MOST_PARAMETERS:
+                raise Refused("types in the table that become one, more than parameters can distinguish")
+            self.counts[kind] = next_free[lowered(kind)] = count
             taken.add(self.marked(kind, count))
 
     @staticmethod

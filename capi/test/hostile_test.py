@@ -99,10 +99,11 @@ def questions():
         return b""
 
     for what, kinds, body, expected in (("two results", [2, 1, 3], i32(0) + i32(0), "NoneType"), ("an argument", [1, 1, 3], i32(0), "NoneType"),
-                                        ("no memory there", [0, 1, 3], i32(-16), "OutOfRange"), ("ever more", [0, 1, 3], i32(16), "Stopped")):
+                                        ("no memory there", [0, 1, 3], i32(-16), "OutOfRange"), ("ever more", [0, 1, 3], i32(16), "Stopped"),
+                                        ("ever more, with much fuel", [0, 1, 3], i32(16), "Error")):
         data = module([body, i32(0), b""], {"ask_next": 0, "ask_answer": 1, "f": 2}, types, kinds, memory)
         with Module(data) as host, ask.Plugin(host, answer) as plugin:
-            found = ended(f"a question, {what}", lambda plugin=plugin: asyncio.run(plugin.call("f", fuel=20_000)), Error)
+            found = ended(f"a question, {what}", lambda plugin=plugin: asyncio.run(plugin.call("f", fuel=10**9 if "much" in what else 20_000)), Error)
         same(f"a question, {what}", type(found).__name__, expected)
 
 

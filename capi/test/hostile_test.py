@@ -14,7 +14,7 @@ from pathlib import Path
 
 import expecting
 from expecting import TOP, run, same
-from wasmloop import Error, Module, _tool, ask, lines, log, profile, record, runs, served, wasm
+from wasmloop import Error, Module, __main__ as tools, _tool, ask, callbacks, lines, log, lower, profile, record, replay, runs, served, wasm
 from wasmloop.wasm import CODE, EXPORT, FUNCTION, MEMORY, TABLE, TYPE, i32, sized, text, u, vec
 
 OUT = Path(sys.argv[1])
@@ -34,6 +34,13 @@ def module(bodies, exports, types=(b"\x60\0\0",), kinds=None, parts=None, custom
 def names(*given):
     """The section with the names of functions."""
     return "name", b"\1" + sized(vec([u(at) + text(name) for at, name in enumerate(given)]))
+
+
+def guest(name):
+    """The bytes of the module that NAME.c makes."""
+    run("clang", "--target=wasm32", "-mcpu=mvp", "-O2", "-I", TOP / "examples", "-c", "-o", OUT / f"{name}.o", OUT / f"{name}.c")
+    run("wasm-ld", "--no-entry", "--export-table", "-z", "stack-size=16384", "-o", OUT / f"{name}.wasm", OUT / f"{name}.o")
+    return (OUT / f"{name}.wasm").read_bytes()
 
 
 def ended(what, call, *kinds):
@@ -92,10 +99,11 @@ def questions():
         return b""
 
     for what, kinds, body, expected in (("two results", [2, 1, 3], i32(0) + i32(0), "NoneType"), ("an argument", [1, 1, 3], i32(0), "NoneType"),
-                                        ("no memory there", [0, 1, 3], i32(-16), "OutOfRange"), ("ever more", [0, 1, 3], i32(16), "Stopped")):
+                                        ("no memory there", [0, 1, 3], i32(-16), "OutOfRange"), ("ever more", [0, 1, 3], i32(16), "Stopped"),
+                                        ("ever more, with much fuel", [0, 1, 3], i32(16), "Error")):
         data = module([body, i32(0), b""], {"ask_next": 0, "ask_answer": 1, "f": 2}, types, kinds, memory)
         with Module(data) as host, ask.Plugin(host, answer) as plugin:
-            found = ended(f"a question, {what}", lambda plugin=plugin: asyncio.run(plugin.call("f", fuel=20_000)), Error)
+            found = ended(f"a question, {what}", lambda plugin=plugin: asyncio.run(plugin.call("f", fuel=10**9 if "much" in what else 20_000)), Error)
         same(f"a question, {what}", type(found).__name__, expected)
 
 
@@ -159,6 +167,74 @@ def siblings():
     same("its units", made.ran.used > 100_000, True)
 
 
+def counts():
+    """Numbers in a module that no host has checked: locals and labels that end far behind their function, in each of many."""
+    many, far = 10_000, u(200_000)
+    behind = ("x", bytes(600_000))
+    for what, body, reads in (("locals", far + bytes(3), wasm.Module), ("labels", b"\0\x0e" + far + bytes(3), lambda data: [it.ops for it in wasm.Module(data).bodies])):
+        data = module([], {}, parts={FUNCTION: vec([u(0)] * many), CODE: vec([sized(body)] * many)}, custom=[behind])
+        same(what, type(ended(what, lambda data=data, reads=reads: reads(data), wasm.Malformed)).__name__, "Malformed")
+
+
+def inlined():
+    """A symbolizer that says of each place that it was inlined 20,000 times."""
+    ran = module([b"\0"], {"f": 0}, custom=[names("f")])
+    debug = module([b"\0"], {"f": 0}, custom=[(".debug_line", b"")])
+    file = OUT / "inlines"
+    file.write_text("#!/bin/sh\ncat > /dev/null\nyes 'name\nx.c:1:1' | head -n 40000\n")
+    file.chmod(0o755)
+    os.environ["SYMBOLIZER"] = str(file)
+    told = ended("a place that is inlined", lambda: told_by(ran, debug))
+    same("its sentence", 0 < len(told) < 10_000 or len(told), True)
+    del os.environ["SYMBOLIZER"]
+
+
+IDLE_C = r"""
+#include "uv.h"
+GUEST_LOG(1 << 20);
+static void again(int32_t idle) { guest_log("again"); (void)idle; }
+UV_MAIN() { uv_idle_start(uv_idle_init(), again); }
+"""
+
+
+def long_records():
+    """A loop that never ends, of which a host takes 100,000 steps: the log of a replay comes in parts, and what a callback left is read."""
+    (OUT / "idle.c").write_text(IDLE_C)
+    data = guest("idle")
+    with Module(data) as host, record.Loop(host, data, str(OUT / "idle.record"), 0) as loop:
+        for _ in range(100_000):
+            loop.step()
+    rows = replay.rows_of(OUT / "idle.record")
+    again, most = replay.Replay(rows), 0
+    while again.next():
+        most = max(most, len(again.log))
+    same("the lines of a log at a time", (again.at, most <= replay.MOST_STEPS), (len(rows), True))
+    before, callbacks.MOST_COST = callbacks.MOST_COST, 3_000_000_000
+    found = ended("a ring that is read by many replays", lambda: log.of_callback(callbacks.Callback(rows, callbacks.LAST)), _tool.Failed)
+    same("what a long record's guest has logged", type(found).__name__, "Failed")
+    callbacks.MOST_COST = before
+
+
+def lowered():
+    """Modules that take a tool long that rewrites them: types that become one, types of many parameters, calls up a long chain, nulls in the table."""
+    some = [b"\x60" + sized(bytes(0x7D if k >> bit & 1 else 0x7F for bit in range(14))) + b"\0" for k in range(12_000)]
+    table = {TABLE: vec([b"\x70\0" + u(20_000)]), ELEMENT: vec([b"\0" + i32(0) + END + vec([u(it) for it in range(12_000)])])}
+    chain = [b"\x10" + u(k) for k in range(30_000)]
+    wide = [b"\x60" + sized(b"\x7f" * 100_000) + b"\0"]
+    nulls = b"\4" + i32(0) + END + vec([b"\xd0\x70" + END])
+    tried = {"types that become one": module([b""] * 12_000, {}, some, range(12_000), table),
+             "a type of many parameters": module([b"\0" + b"\x10\0" * 100_000], {}, wide),
+             "a long chain of calls": module(chain, {"guest_threw": 1}, [b"\x60\0\0"], [0] * len(chain),
+                                             {wasm.IMPORT: vec([text("env") + text("emscripten_longjmp") + b"\0\0"])}),
+             "nulls in the table": module([], {}, parts={TABLE: vec([b"\x70\0" + u(20_000)]), ELEMENT: vec(
+                 [b"\0" + i32(0) + END + vec([u(0)] * 10_000), *[nulls.replace(i32(0), i32(10_001))] * 20_000])}),
+             "a long passive segment": module([b"\x41\0\x41\0\x41\0\xfc\x08\0\0"], {}, parts={
+                 MEMORY: vec([b"\0\1"]), 12: u(1), wasm.DATA: vec([b"\1" + sized(bytes(range(256)) * 2000)])})}
+    for what, data in tried.items():
+        found = ended(what, lambda data=data: lower.lower(data, (Path(lower.SOFT)).read_bytes()), lower.Refused)
+        same(f"lower: {what}", isinstance(found, (tuple, lower.Refused)), True)
+
+
 FLOOD_C = r"""
 #include "uv.h"
 static void again(int32_t idle) { for (int k = 0; k < 64; k++) uv_emit(k); (void)idle; }
@@ -169,9 +245,7 @@ UV_MAIN() { uv_idle_start(uv_idle_init(), again); }
 def floods():
     """A guest that emits without end: to a host that does not read, to one that reads slowly, and to a record."""
     (OUT / "flood.c").write_text(FLOOD_C)
-    run("clang", "--target=wasm32", "-mcpu=mvp", "-O2", "-I", TOP / "examples", "-c", "-o", OUT / "flood.o", OUT / "flood.c")
-    run("wasm-ld", "--no-entry", "--export-table", "-z", "stack-size=16384", "-o", OUT / "flood.wasm", OUT / "flood.o")
-    data = (OUT / "flood.wasm").read_bytes()
+    data = guest("flood")
 
     async def unread(host):
         async with served.Served(host) as loop:
@@ -216,7 +290,22 @@ def statuses():
             same(f"{script} {words}: its status", done.returncode != 0, True)
 
 
-PARTS = numbers, long_names, logs, questions, unlike, broken, symbolizers, siblings, floods, statuses
+def pipes():
+    """A tool whose reader is gone ends quietly, with status 1: its list, its help, and what it found."""
+    env = {name: value for name, value in os.environ.items() if name != "PYTHONUNBUFFERED"}
+    plain = OUT / "plain.wasm"
+    plain.write_bytes(module([b""], {"uv_work": 0}, [b"\x60\1\x7f\1\x7f"], parts={CODE: vec([sized(b"\0" + i32(0) + END)])}))
+    found = ("profile", plain), ("cover", plain), ("profile", plain, "--folded", "-"), ("lower", plain, "-"), ("bind", plain.with_name("one.h"))
+    plain.with_name("one.h").write_text("int f(int a);\n")
+    for words in ((), *((it, "--help") for it in tools.TOOLS), *found):
+        reads, writes = os.pipe()
+        os.close(reads)
+        done = subprocess.run([sys.executable, "-m", "wasmloop", *map(str, words)], stdout=writes, stderr=subprocess.PIPE, text=True, env=env, check=False)
+        os.close(writes)
+        same(f"{' '.join(map(str, words))}, read by nobody", (done.returncode, done.stderr), (1, ""))
+
+
+PARTS = numbers, long_names, logs, questions, counts, unlike, broken, symbolizers, inlined, siblings, long_records, lowered, floods, statuses, pipes
 
 
 def main():

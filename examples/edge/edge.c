@@ -12,7 +12,7 @@
 #include <unistd.h>
 #include "http.h"
 
-enum { SWEEP_MS = 100 };
+enum { SWEEP_MS = 100, MOST_WORKERS = 128, FILES = 32 }; /* FILES: how many are kept for modules and limits, beside one for each thread */
 
 uv_loop_t *uv;
 const char *folder;
@@ -118,6 +118,11 @@ static void on_signal(uv_signal_t *signal, int number) {
     draining = true;
 }
 
+static void on_reload(uv_signal_t *signal, int number) {
+    (void)signal, (void)number;
+    tenants_reload();
+}
+
 static void on_change(uv_fs_event_t *event, const char *file, int events, int status) {
     (void)event, (void)events;
     if (status == 0 && file) tenant_changed(file);
@@ -131,7 +136,7 @@ static int options(int argc, char **argv) {
         if (o == '?' || n == UINT64_MAX || n == 0) return 0;
         if (o == 'a') address = optarg;
         if (o == 'p') port = (int)n;
-        if (o == 'w') workers = n < 128 ? (uint32_t)n : 128;
+        if (o == 'w') workers = n < MOST_WORKERS ? (uint32_t)n : MOST_WORKERS;
         if (o == 'g') grace = n;
         if (o == 't') patience = n * 1000;
         if (o == 'c') most_clients = (uint32_t)n;
@@ -141,45 +146,107 @@ static int options(int argc, char **argv) {
     return optind == argc - 1 && port < 65536 ? port : 0;
 }
 
-/* Sets the number of pool threads, allows as many connections as the system does, and keeps freed memory: the next instance has no page faults. */
+/* ---- what must be there at the start ---- */
+
+/* Allows as many open files as the system does: what is kept for modules and limits no client takes. Returns whether there are enough. */
+static bool has_files(void) {
+    struct rlimit files;
+    uint64_t kept = FILES + workers;
+    if (getrlimit(RLIMIT_NOFILE, &files) != 0) return true;
+    files.rlim_cur = files.rlim_max;
+    setrlimit(RLIMIT_NOFILE, &files);
+    if (files.rlim_cur <= kept) {
+        fprintf(stderr, "edge: %llu files may be open: more than %llu are needed (ulimit -n)\n", U(files.rlim_cur), U(kept));
+        return false;
+    }
+    uint64_t open = files.rlim_cur - kept, most = open - open / SHARES;
+    if (open < most_open) most_open = (uint32_t)open;
+    if (most < most_clients) most_clients = (uint32_t)most;
+    return true;
+}
+
+static void stand(void *gate) { uv_sem_wait(gate); }
+
+static void do_nothing(uv_work_t *work) { (void)work; }
+
+static void did_nothing(uv_work_t *work, int status) { (void)work, (void)status; }
+
+/* Makes the threads of libuv's pool, which aborts where it can't: as many are made, and ended, before. Returns libuv's error. */
+static int make_threads(void) {
+    static uv_work_t first;
+    uv_thread_t made[MOST_WORKERS];
+    uv_sem_t gate;
+    uint32_t n = 0;
+    int told = uv_sem_init(&gate, 0);
+    while (told == 0 && n < workers && (told = uv_thread_create(&made[n], stand, &gate)) == 0) n++;
+    for (uint32_t i = 0; i < n; i++) uv_sem_post(&gate);
+    for (uint32_t i = 0; i < n; i++) uv_thread_join(&made[i]);
+    return told ? told : uv_queue_work(uv, &first, do_nothing, did_nothing);
+}
+
+/* Sets the number of pool threads, and keeps freed memory: the next instance has no page faults. */
 static void provide(void) {
     char size[16];
-    struct rlimit files;
     snprintf(size, sizeof size, "%u", workers);
     setenv("UV_THREADPOOL_SIZE", size, 1);
-    if (getrlimit(RLIMIT_NOFILE, &files) == 0) files.rlim_cur = files.rlim_max, setrlimit(RLIMIT_NOFILE, &files);
     mallopt(M_MMAP_THRESHOLD, 32 << 20);
     mallopt(M_TRIM_THRESHOLD, 256 << 20);
     signal(SIGPIPE, SIG_IGN);
+    signal(SIGXFSZ, SIG_IGN); /* a log as long as a file may be is one on a full disk */
     log_begin();
 }
 
-int main(int argc, char **argv) {
-    static uv_signal_t signals[2];
+static void watch_signals(void) {
+    static const struct {
+        int number;
+        uv_signal_cb does;
+    } known[] = { { SIGINT, on_signal }, { SIGTERM, on_signal }, { SIGHUP, on_reload } };
+    static uv_signal_t signals[sizeof known / sizeof *known];
+    for (size_t i = 0; i < sizeof known / sizeof *known; i++) {
+        uv_signal_init(uv, &signals[i]);
+        uv_signal_start(&signals[i], known[i].does, known[i].number);
+        uv_unref((uv_handle_t *)&signals[i]);
+    }
+}
+
+/* Watches the folder. Returns libuv's error if there is none; without a watch SIGHUP remains. */
+static int watch_folder(void) {
     static uv_fs_event_t changes;
+    uv_fs_event_init(uv, &changes);
+    uv_unref((uv_handle_t *)&changes);
+    int told = uv_fs_event_start(&changes, on_change, folder, 0);
+    if (told == UV_ENOENT || told == UV_ENOTDIR || told == UV_EACCES) return told;
+    if (told != 0) fprintf(stderr, "edge: changes in %s are not seen without SIGHUP: %s\n", folder, uv_strerror(told));
+    return 0;
+}
+
+/* Says what is wanting. Returns the status. */
+static int wants(int told, const char *what, const char *more) {
+    fprintf(stderr, "edge: %s%s: %s\n", what, more, uv_strerror(told));
+    return 1;
+}
+
+int main(int argc, char **argv) {
+    static uv_loop_t own;
     int port = options(argc, argv), told;
+    char at[32];
     if (port == 0) {
         fprintf(stderr, "usage: edge [-a ADDRESS] [-p PORT] [-w WORKERS] [-t SECONDS] [-c CLIENTS] [-x PROXY] [-r RECORDS] [-g GRACE] FOLDER\n");
         return 2;
     }
+    if (!has_files()) return 1;
     provide();
-    uv = uv_default_loop();
-    if ((told = serve(address, port)) != 0) {
-        fprintf(stderr, "edge: %s, port %d: %s\n", address, port, uv_strerror(told));
-        return 1;
-    }
-    for (int i = 0; i < 2; i++) {
-        uv_signal_init(uv, &signals[i]);
-        uv_signal_start(&signals[i], on_signal, i ? SIGTERM : SIGINT);
-        uv_unref((uv_handle_t *)&signals[i]);
-    }
+    uv = &own;
+    snprintf(at, sizeof at, ", port %d", port);
+    if ((told = uv_loop_init(uv)) != 0) return wants(told, "an event loop", "");
+    if ((told = make_threads()) != 0) return wants(told, "the threads of its pool (-w)", "");
+    if ((told = watch_folder()) != 0) return wants(told, folder, "");
+    if ((told = serve(address, port)) != 0) return wants(told, address, at);
+    watch_signals();
     uv_timer_init(uv, &drain);
     uv_unref((uv_handle_t *)&drain);
     uv_timer_init(uv, &sweeper);
     uv_timer_start(&sweeper, on_sweep, SWEEP_MS, SWEEP_MS);
-    uv_fs_event_init(uv, &changes);
-    uv_unref((uv_handle_t *)&changes);
-    if (uv_fs_event_start(&changes, on_change, folder, 0) != 0) fprintf(stderr, "edge: changes in %s will not be seen\n", folder);
     notify("READY=1");
     return uv_run(uv, UV_RUN_DEFAULT);
 }

@@ -60,7 +60,8 @@ struct tenant {
     char *type; /* the Content-Type of replies, or NULL */
     wasmloop_handle module;
     task *load;
-    int status;           /* of its last load */
+    int status;           /* of its last load, */
+    uint64_t stamp;       /* and of the file, when that began */
     bool changed, unread, lives; /* its file is newer than the last load, its .conf could not be read; its module has a loop */
     char *said, *failure; /* why its file was rejected, and its guest's last failure */
     tasks waits, asks;
@@ -96,7 +97,7 @@ void explain(task *k, wasmloop_handle *of, const char *how, uint32_t trap, uint6
 
 /* tenants.c */
 tenant *tenant_of(const char *name, bool make);
-void tenant_changed(const char *file), refuse(client *c), tenants_sweep(bool all);
+void tenant_changed(const char *file), refuse(client *c), tenants_sweep(bool all), tenants_reload(void);
 size_t read_module(const tenant *t, const uint8_t **bytes);
 FILE *open_file(const tenant *t, const char *kind);
 

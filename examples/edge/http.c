@@ -1,5 +1,4 @@
 /* Connections: parses and answers one request of a client at a time, and limits what a client may hold and how long it may take. */
-#include <ctype.h>
 #include <stdarg.h>
 #include <stdlib.h>
 #include <string.h>
@@ -7,9 +6,9 @@
 #include <unistd.h>
 #include "http.h"
 
-enum { IDLE_MS = 60000, LINGER_MS = 2000, NO_CODING = -1, CHUNKED = 7, OTHER_CODING };
+enum { IDLE_MS = 60000, LINGER_MS = 2000 };
 
-uint32_t clients, most_clients = 16384;
+uint32_t clients, most_clients = 16384, most_open = UINT32_MAX;
 uint64_t patience = 10000;
 size_t held;
 struct in_addr proxy = { INADDR_NONE };
@@ -165,10 +164,9 @@ void say(client *c, int status, const char *format, ...) {
 static int on_begin(http_parser *p) {
     client *c = p->data;
     c->task = (task){ 0 };
-    c->head_length = c->body.length = c->hosts = 0;
-    c->keep = c->expects = c->valued = false;
-    c->coding = NO_CODING;
-    *c->path = *c->field = 0;
+    c->head_length = c->body.length = 0;
+    c->keep = false;
+    *c->path = 0;
     c->number = ++requests;
     c->came = uv_hrtime();
     c->task.until = in_ms(patience);
@@ -191,83 +189,34 @@ static int on_url(http_parser *p, const char *at, size_t n) {
     return 0;
 }
 
-static int on_header(client *c, size_t n) {
+/* A header's name, its value, or a part of one. */
+static int on_header(http_parser *p, const char *at, size_t n) {
+    client *c = p->data;
+    (void)at;
     return (c->head_length += n) > MOST_HEAD ? refused(c, 431, "the headers are too long") : 0;
 }
 
-/* A header's name, or a part of one; its value, even if empty, comes next. */
-static int on_field(http_parser *p, const char *at, size_t n) {
-    client *c = p->data;
-    if (c->valued) *c->field = 0;
-    c->valued = false;
-    size_t room = sizeof c->field - 1 - strlen(c->field);
-    if (memchr(at, ' ', n)) return refused(c, 400, "a space in a header's name");
-    strncat(c->field, at, n < room ? n : room);
-    return on_header(c, n);
-}
-
-/* Compares a Transfer-Encoding, or a part of one, with "chunked", which blanks may surround. */
-static void on_coding(client *c, const char *at, size_t n) {
-    if (c->coding == NO_CODING) c->coding = 0;
-    for (size_t i = 0; i < n; i++) {
-        bool blank = at[i] == ' ' || at[i] == '\t', ends = c->coding == 0 || c->coding == CHUNKED;
-        if (c->coding < CHUNKED && tolower((unsigned char)at[i]) == "chunked"[c->coding])
-            c->coding++;
-        else if (!blank || !ends)
-            c->coding = OTHER_CODING;
-    }
-}
-
-/* A header's value, or a part of one. */
-static int on_value(http_parser *p, const char *at, size_t n) {
-    client *c = p->data;
-    if (strcasecmp(c->field, "Host") == 0 && !c->valued && c->hosts < 2) c->hosts++;
-    if (strcasecmp(c->field, "Expect") == 0) c->expects = true;
-    if (strcasecmp(c->field, "Transfer-Encoding") == 0) on_coding(c, at, n);
-    c->valued = true;
-    return on_header(c, n);
-}
-
-/* The headers are complete. Checks what RFC 9112 requires and the parser does not check, and does not read a body that isn't needed. */
+/* The headers are complete. A body that isn't needed is not read. */
 static int on_head(http_parser *p) {
     client *c = p->data;
-    bool chunked = p->flags & F_CHUNKED;
-    uint64_t length = chunked ? MOST_BYTES : p->content_length == UINT64_MAX ? 0 : p->content_length;
-    if (p->http_major != 1) return refused(c, 400, "the version is not HTTP/1.1 or HTTP/1.0");
-    if (c->coding != NO_CODING && !chunked) return refused(c, 400, "the last Transfer-Encoding is not chunked");
-    if (c->coding != NO_CODING && c->coding != CHUNKED) return refused(c, 501, "a Transfer-Encoding other than chunked");
-    if (p->http_minor == 0 && chunked) return refused(c, 400, "chunked in HTTP/1.0");
-    if (c->hosts != 1 && (p->http_minor > 0 || c->hosts)) return refused(c, 400, "expected one Host header");
-    if (length > MOST_BYTES) return refused(c, 413, TOO_LONG);
-    if (length == 0) return 0;
+    const grammar *g = &c->grammar;
+    if (g->length > MOST_BYTES) return refused(c, 413, TOO_LONG);
+    if (g->length == 0 && !g->chunked) return 0;
     if (!wants_all(c)) return -1;
-    if (c->expects && p->http_minor > 0) uv_write(&c->go_ahead, (uv_stream_t *)&c->tcp, &go_ahead, 1, NULL);
+    if (g->expects && g->minor > 0) uv_write(&c->go_ahead, (uv_stream_t *)&c->tcp, &go_ahead, 1, NULL);
     return 0;
 }
 
-static const char *fed; /* the end of what is being parsed */
-
-/* The bytes at `at` behind a chunk, as far as they have come: CR LF. (libhttp-parser takes any two, as Debian builds it, and a proxy in front may
- * not: then the two would not agree on where a request ends.) */
-static int behind_chunk(client *c, const char *at) {
-    for (; c->behind && at < fed; at++)
-        if (*at != (c->behind-- == 2 ? '\r' : '\n')) return refused(c, 400, "a chunk without CR LF at its end");
-    return 0;
-}
-
+/* A chunk's size is known: one that is too long is not waited for. */
 static int on_chunk(http_parser *p) {
     client *c = p->data;
-    c->chunk = p->content_length;
-    return 0;
+    return p->content_length > MOST_BYTES - c->body.length ? refused(c, 413, TOO_LONG) : 0;
 }
 
 static int on_body(http_parser *p, const char *at, size_t n) {
     client *c = p->data;
     if (n > MOST_BYTES - c->body.length) return refused(c, 413, TOO_LONG);
-    if (!hold(c, &c->body, at, n)) return refused(c, 503, "no room for the body");
-    if (!(p->flags & F_CHUNKED) || (c->chunk -= n)) return 0;
-    c->behind = 2;
-    return behind_chunk(c, at + n);
+    return hold(c, &c->body, at, n) ? 0 : refused(c, 503, "no room for the body");
 }
 
 static int on_end(http_parser *p) {
@@ -280,8 +229,8 @@ static int on_end(http_parser *p) {
 
 static const http_parser_settings settings = { .on_message_begin = on_begin,
     .on_url = on_url,
-    .on_header_field = on_field,
-    .on_header_value = on_value,
+    .on_header_field = on_header,
+    .on_header_value = on_header,
     .on_headers_complete = on_head,
     .on_chunk_header = on_chunk,
     .on_body = on_body,
@@ -289,13 +238,15 @@ static const http_parser_settings settings = { .on_message_begin = on_begin,
 
 /* ---- connections ---- */
 
-/* Parses up to the end of a request, and handles it. Returns how many bytes it took. */
+/* Parses up to the end of a request, or up to what its grammar refuses, and handles it. Returns how many bytes it took. */
 static size_t feed(client *c, const char *at, size_t n) {
-    fed = at + n;
-    if (behind_chunk(c, at)) return n;
-    size_t took = http_parser_execute(&c->parser, &settings, at, n);
-    int stands = HTTP_PARSER_ERRNO(&c->parser);
-    if (stands != HPE_OK && !c->busy) refused(c, 400, http_errno_description(stands));
+    grammar *g = &c->grammar;
+    size_t good = grammar_takes(g, at, n), took = good ? http_parser_execute(&c->parser, &settings, at, good) : 0;
+    int stands = good ? HTTP_PARSER_ERRNO(&c->parser) : HPE_OK;
+    if (took != good) c->keep = false;
+    if (c->busy) return took;
+    if (stands != HPE_OK) refused(c, 400, http_errno_description(stands));
+    else if (g->status || g->ends) refused(c, g->status ? g->status : 400, g->status ? g->why : "it is not clear where it ends");
     return took;
 }
 
@@ -357,7 +308,7 @@ static void on_connection(uv_stream_t *stream, int status) {
     bool accepted = uv_accept(stream, (uv_stream_t *)&c->tcp) == 0;
     c->from = accepted ? holder_of(c) : &of_proxy;
     c->from->clients++;
-    if (!accepted) {
+    if (!accepted || clients > most_open) {
         leave(c);
         return;
     }
@@ -394,6 +345,7 @@ int serve(const char *address, int port) {
     struct sockaddr_in at;
     int told = uv_ip4_addr(address, port, &at);
     const char *given = getenv("LISTEN_FDS"), *to = getenv("LISTEN_PID");
+    grammar_begin();
     uv_tcp_init(uv, &server);
     /* (systemd's socket outlives a restart, so no connection is refused meanwhile) */
     if (given && to && atoi(given) == 1 && atoi(to) == getpid()) told = uv_tcp_open(&server, 3);

@@ -5,6 +5,7 @@
 #define HTTP_H
 
 #include "edge.h"
+#include "grammar.h"
 #ifdef EDGE_LLHTTP
 #include <llhttp.h>
 #define http_parser llhttp_t
@@ -45,22 +46,18 @@ struct client {
     uv_write_t write, go_ahead;
     http_parser parser;
     holder *from;
-    bool busy, keep, expects, valued, queued; /* valued: the parser was last in a header's value; queued: counted in from->requests */
-    uint8_t hosts;                    /* how many Host headers it has, counted up to two */
-    uint8_t behind;                   /* how many of the two bytes behind a chunk are yet to come */
-    int8_t coding;                    /* how much of "chunked" its Transfer-Encoding is, or NO_CODING, or OTHER_CODING */
-    char field[20];                   /* the current header's name, as far as it fits */
+    grammar grammar;
+    bool busy, keep, queued;          /* queued: counted in from->requests */
     char path[256], head[400], *text; /* head, text: the answer's headers, and its body if that is no reply */
     const char *allow;                /* the Allow header, if its method is not allowed */
     void (*does)(client *, tenant *, uint32_t);
-    uint64_t chunk;                   /* how many bytes of the current chunk are yet to come */
     bytes body, rest;                 /* rest: what arrived after the request that is being answered, */
     size_t parsed, head_length;       /* and how much of that is parsed */
     uint64_t number, came;            /* came: when its first byte arrived, or 0 */
     int32_t request;                  /* its number in the tenant's loop, or 0 */
 };
 
-extern uint32_t clients, most_clients;
+extern uint32_t clients, most_clients, most_open; /* most_open: how many may be open, with those that are told that they are too many */
 extern uint64_t patience; /* how many milliseconds a request may take to arrive, and its answer to be received */
 extern size_t held;
 extern struct in_addr proxy; /* an address without a share of its own: its clients are many */

@@ -78,12 +78,22 @@ static void loaded(task *k) {
     if (anew || !t->module.mark) make_loop(t);
 }
 
+/* A number that is another one if its file was written or replaced; 0 if there is none. */
+static uint64_t stamp_of(const tenant *t) {
+    char path[512];
+    struct stat is;
+    snprintf(path, sizeof path, "%s/%s.wasm", folder, t->name);
+    if (stat(path, &is) != 0) return 0;
+    return (uint64_t)is.st_ino * 1000003u + (uint64_t)is.st_size * 10007u + (uint64_t)is.st_ctim.tv_sec * 1000000000u + (uint64_t)is.st_ctim.tv_nsec;
+}
+
 /* Loads its module, and again at the next sweep if the file changes meanwhile. */
 static void load(tenant *t) {
     static const kind loads = { NULL, do_load, loaded };
     t->changed = true;
     if (t->load || ending || !(t->load = task_of(t, &loads))) return;
     t->changed = false;
+    t->stamp = stamp_of(t);
     wait_for(t->load, true);
 }
 
@@ -160,6 +170,14 @@ void tenant_changed(const char *file) {
     tenant *t = sscanf(file, "%63[^.].%7s", name, kind) == 2 ? tenant_of(name, false) : NULL;
     if (t && strcmp(kind, "wasm") == 0) load(t);
     if (t && strcmp(kind, "conf") == 0) read_limits(t);
+}
+
+/* Reads all limits again, and the modules whose file is another one: some changes aren't seen, as those on another machine's disk. */
+void tenants_reload(void) {
+    for (tenant *t = LIST_FIRST(&tenants); t; t = LIST_NEXT(t, next)) {
+        read_limits(t);
+        t->changed |= stamp_of(t) != t->stamp;
+    }
 }
 
 /* Removes tenants without a file, or all, once no request needs them. */

@@ -38,6 +38,18 @@ leak() {
     fi
 }
 
+# The sources of llhttp, in LLHTTP if it is not given: Debian has them in its newest suite.
+llhttp() {
+    [ -z "${LLHTTP:-}" ] || return 0
+    mkdir "$out/llhttp"
+    apt=$("$top/tools/apt_config.sh" "$out/apt" sid 2> /dev/null) || return 1
+    (cd "$out/llhttp" && APT_CONFIG=$apt apt-get -q source --download-only llhttp > log 2>&1)
+    LLHTTP=$out/llhttp
+    export LLHTTP
+    for file in "$LLHTTP"/llhttp_*.orig.tar.gz; do tar xzf "$file" -C "$LLHTTP" --strip-components 1 2> /dev/null; done
+    [ -d "$LLHTTP/test/request" ]
+}
+
 # Makes a guest's source lines from a build with debug information.
 source_lines() {
     flags="--target=wasm32 -mcpu=mvp -std=c99 -O2 -ffreestanding -I $here/.."
@@ -52,11 +64,12 @@ if ! pkg-config --exists libuv; then left_out "all: there is no libuv"; exit 0; 
 if ! pkg-config --exists libllhttp && ! echo '#include <http_parser.h>' | cc -E - > /dev/null 2>&1; then left_out "all: there is no HTTP parser"; exit 0; fi
 if ! has clang || ! has wasm-ld; then left_out "all: there is no clang with wasm-ld for the guests"; exit 0; fi
 export WASMLOOP_LIBRARY="$library/libwasmloop.so.0" PYTHONPATH="$top/capi/python"
-strict=strict
-/usr/bin/python3 -c 'import h11' 2> /dev/null || { strict=; left_out 'the strict client: there is no h11'; }
+others=forms
+if /usr/bin/python3 -c 'import h11' 2> /dev/null; then others="$others strict"; else left_out 'the strict client: there is no h11'; fi
+if /usr/bin/python3 -c 'import h11.tests, pytest' 2> /dev/null; then others="$others h11"; else left_out "h11's requests: there is no h11 or pytest"; fi
 chunks='from twisted.web.http import _ChunkedTransferDecoder, _MalformedChunkedDataError'
-if /usr/bin/python3 -c "import twisted.web.test.test_http; $chunks" 2> /dev/null; then strict="$strict vectors"
-else left_out "others' requests: there is no Twisted"
+if /usr/bin/python3 -c "import twisted.web.test.test_http; $chunks" 2> /dev/null; then others="$others twisted"
+else left_out "Twisted's requests: there is no Twisted"
 fi
 mkdir "$out/guests"
 "$here/guests/build.sh" "$out/guests" && cp "$here/../crc32.wasm" "$here/../sha256.wasm" "$here/../ticker.wasm" "$out/guests" || exit 1
@@ -71,7 +84,7 @@ for how; do
     plain)
         CFLAGS=-Werror "$here/build.sh" "$out/plain" "$library" || exit 1
         "$here/bench/plain.sh" "$out/over_c" || { say 'FAILED: bench/plain.sh'; failed=1; }
-        part "$out/plain" "$out/guests" functions bounds end operators clients $strict
+        part "$out/plain" "$out/guests" functions bounds starts end operators clients $others
         if has chromium; then part "$out/plain" "$out/guests" page; else left_out 'the page: there is no chromium'; fi
         soak "$out/plain" 10
         leak 10
@@ -82,14 +95,15 @@ for how; do
         fi ;;
     addresses)
         CC=clang CFLAGS='-g -O1 -fsanitize=address,undefined -fno-sanitize-recover=undefined' "$here/build.sh" "$out/addresses" "$library" || exit 1
-        ASAN_OPTIONS=quarantine_size_mb=8 part "$out/addresses" "$out/guests" functions bounds end operators clients $strict ;;
+        ASAN_OPTIONS=quarantine_size_mb=8 part "$out/addresses" "$out/guests" functions bounds end operators clients $others ;;
     threads)
         CC=clang CFLAGS='-g -O1 -fsanitize=thread' "$here/build.sh" "$out/threads" "$library" || exit 1
-        part "$out/threads" "$out/guests" functions bounds end operators clients $strict ;;
+        part "$out/threads" "$out/guests" functions bounds end operators clients $others ;;
     long)
         "$here/build.sh" "$out/plain" "$library" || exit 1
         CC=clang CFLAGS='-g -O1 -fsanitize=address,undefined -fno-sanitize-recover=undefined' "$here/build.sh" "$out/addresses" "$library" || exit 1
         CC=clang CFLAGS='-g -O1 -fsanitize=thread' "$here/build.sh" "$out/threads" "$library" || exit 1
+        if llhttp; then part "$out/plain" "$out/guests" llhttp; else left_out "llhttp's requests: apt has no sources of it here"; fi
         LOAD=$out/load part "$out/plain" "$out/guests" 10000 hostile
         if has slowhttptest; then part "$out/addresses" "$out/guests" attacks; else left_out 'attacks: there is no slowhttptest'; fi
         ASAN_OPTIONS=quarantine_size_mb=8 part "$out/addresses" "$out/guests" 10000 hostile

@@ -16,6 +16,8 @@ import subprocess
 import sys
 from typing import List, Optional
 
+from . import _tool
+
 TOOLS = "cc", "lower", "lines", "record", "replay", "plugin_record", "log", "profile", "cover", "fuzz", "freeze", "ask", "bind"
 
 
@@ -26,11 +28,12 @@ def program() -> Optional[str]:
     return found if found and os.path.realpath(found) != os.path.realpath(sys.argv[0]) else None
 
 
-def listed(start: str = "python3 -m wasmloop ") -> None:
+def listed(start: str = "python3 -m wasmloop ") -> int:
     """Prints a line for each tool: the first clause of its documentation."""
     for name in TOOLS:
         doc = (importlib.import_module(f"wasmloop.{name}").__doc__ or "").replace("\n", " ")
         print(f"{start}{name:15}{re.split('[.:] ', doc)[0]}")
+    return 0
 
 
 def helped() -> None:
@@ -46,7 +49,7 @@ def helped() -> None:
 def command(words: List[str]) -> int:
     """Runs a tool, or the program in place of this process."""
     if words[0] in TOOLS:
-        setattr(importlib.import_module("wasmloop._tool"), "START", "wasmloop ")
+        _tool.START = "wasmloop "
         sys.argv[1:] = words[1:]
         runpy.run_module(f"wasmloop.{words[0]}", run_name="__main__")
         return 0
@@ -58,8 +61,8 @@ def command(words: List[str]) -> int:
     os.execv(found, ["wasmloop", *words])
 
 
-def main() -> int:
-    """`wasmloop`, as the wheel installs it."""
+def chosen() -> int:
+    """Does what the words of `wasmloop` ask for."""
     words = sys.argv[1:]
     if words in ([], ["help"], ["--help"], ["-h"]):
         helped()
@@ -67,7 +70,10 @@ def main() -> int:
     return command([words[1], "--help"] if words[0] == "help" and words[1] in TOOLS else words)
 
 
+def main() -> None:
+    """`wasmloop`, as the wheel installs it."""
+    _tool.run("wasmloop", chosen)
+
+
 if __name__ == "__main__":
-    if not sys.argv[1:]:
-        listed()
-    sys.exit(command(sys.argv[1:]) if sys.argv[1:] else 0)
+    _tool.run("wasmloop", lambda: command(sys.argv[1:]) if sys.argv[1:] else listed())

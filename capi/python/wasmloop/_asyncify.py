@@ -2,7 +2,7 @@
 
 from __future__ import annotations
 
-from typing import Any, List, Optional, Set, Tuple
+from typing import Any, Dict, List, Optional, Set, Tuple
 
 from . import wasm
 
@@ -27,12 +27,16 @@ def asked_by_pointer(data: bytes) -> bool:
         return True
     if any(head[0] for head, _ in segments):            # a form that `elements` does not read
         return True
-    callees = {at: {callee(data, op) for op in body.ops} for at, body in enumerate(module.bodies, len(module.imported))}
-    asking: Set[int] = set()
-    found = {at for at, name in enumerate(module.imported) if name == "start_unwind"}
-    while found:
+    callers: Dict[Optional[int], Set[int]] = {}
+    for at, body in enumerate(module.bodies, len(module.imported)):
+        for called in {callee(data, op) for op in body.ops}:
+            callers.setdefault(called, set()).add(at)
+    asking = {at for at, name in enumerate(module.imported) if name == "start_unwind"}
+    todo = list(asking)
+    while todo:
+        found = callers.get(todo.pop(), set()) - asking
         asking |= found
-        found = {at for at, calls in callees.items() if at not in asking and calls & found}
+        todo += found
     return any(asking.intersection(functions) for _, functions in segments)
 
 

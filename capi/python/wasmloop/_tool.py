@@ -84,11 +84,19 @@ def near(file: str) -> str:
     return file if short.startswith("../..") else short
 
 
+def status_of(main: Callable[[], int]) -> Union[int, str, None]:
+    """The status that `main` returns or exits with, as argparse does behind its help."""
+    try:
+        return main()
+    except SystemExit as why:
+        return why.code
+
+
 def run(tool: str, main: Callable[[], int]) -> None:
-    """Ends the process with the status that `main` returns, or with that of the exception it raises."""
+    """Ends the process with the status that `main` returns, or with that of the exception it raises; quietly, if nobody reads its output."""
     warnings.simplefilter("ignore", InertImports)       # a tool itself reports what a guest calls
     try:
-        status = main()
+        status = status_of(main)
         sys.stdout.flush()
     except Failed as why:
         status = why.status

@@ -38,7 +38,10 @@ ASKS = {"ask_next": ([], [32]), "ask_answer": ([32], [32])}  # what a plug-in th
 
 class Plugin:
     """An instance whose functions may ask. `answer` is given the bytes of each question and returns those of the answer, or None if there is
-    none; it may await. While a question waits, nothing of the guest runs, and `instance` may be called for functions that do not ask."""
+    none; it may await. While a question waits, nothing of the guest runs, and `instance` may be called for functions that do not ask. A call may
+    ask `most` questions: one takes the host as long as thousands of the plug-in's units."""
+
+    most = 10_000
 
     def __init__(self, module: Module, answer: Answer, fuel: int = 1_000_000, depth: int = 64) -> None:
         self.instance, self.answer, self.used, self._state = module.instance(fuel, depth), answer, 0, ""
@@ -83,6 +86,7 @@ class Plugin:
         """The same call as a generator, for a host that doesn't use asyncio: it yields each question, is sent the answer, and returns the results.
         With `resumed`, it begins with the question that waits: in an instance of a module that freeze.left_by wrote meanwhile."""
         self.check()
+        self._asked = 0
         self._state, self.used = f"the plug-in stands in the middle of a call of {name}", 0
         told = None if resumed else self._call(fuel, depth, name, *args)
         while self._asks and (at := self._call(fuel, depth, "ask_next")):
@@ -103,6 +107,9 @@ class Plugin:
 
     def _question(self, at: int) -> Tuple[bytes, int, int]:
         """The bytes of the question, and where the answer goes."""
+        self._asked += 1
+        if self._asked > self.most:
+            raise Error(RANGE, f"the call asks more than {self.most} questions")
         memory = self.instance.memory
         start, length, place, room = struct.unpack("<4I", memory[at:at + 16])
         if length > MOST or max(start + length, place + room) > len(memory):

@@ -15,6 +15,7 @@ from .tree import NODE, Node, TreeWriter
 from .wasm import ELEMENT, I32, I64, MOST_BYTES, START, number, text, u, vec
 
 SLOWER = 64                                             # so many units, at most, stand for one of the guest
+STEP, MOST_COST = 3000, 100_000_000_000                 # what a step of a replay costs, in units; of all replays of a record
 ENDINGS = "done", "trap", "depth", "spent"
 MOST_EMITS = 64
 LAST = -1                                               # the last callback of a record
@@ -154,16 +155,26 @@ class Working(replay.Replay):
 
 
 class Watched(Working):
-    """A replay that keeps what each callback did, with its backtrace if it stopped."""
+    """A replay that keeps what one callback did, with its backtrace if it stopped: the given one, or the last, or by default the one that failed, else
+    the first of those that used most. `cost` is what the replay took."""
 
-    def __init__(self, rows: replay.Rows) -> None:
+    def __init__(self, rows: replay.Rows, given: Optional[int]) -> None:
         super().__init__(rows)
-        self.ran: List[Tuple[Did, List[Site], str]] = []
+        self.given, self.count, self.number, self.cost = given, 0, 0, 0
+        self.ran: Optional[Tuple[Did, List[Site], str]] = None
+
+    def _is_wanted(self, did: Did) -> bool:
+        if self.given is None:
+            return bool(did.ending) or self.ran is None or did.used > self.ran[0].used
+        return self.given in (self.count, LAST)
 
     def _one_step(self) -> Did:
         did = super()._one_step()
+        self.cost += STEP + did.used
         if did.what == RAN:
-            self.ran.append((did, self.loop.stop() if did.ending else [], self.told))
+            self.count += 1
+            if self._is_wanted(did):
+                self.number, self.ran = self.count, (did, self.loop.stop() if did.ending else [], self.told)
         return did
 
 
@@ -197,15 +208,14 @@ class Callback:
     kept_calls: Optional[int] = None
 
     def __init__(self, rows: replay.Rows, given: Optional[int] = None) -> None:
-        watched = Watched(rows)
+        watched = Watched(rows, given)
         while watched.next():
             pass
-        self.rows, self.data, self.work = rows, watched.code, watched.work
-        failed = len(watched.ran) if watched.failed else max(range(1, len(watched.ran) + 1), key=lambda it: watched.ran[it - 1][0].used, default=0)
-        self.number = failed if given is None else len(watched.ran) if given == LAST else given
-        if not 1 <= self.number <= len(watched.ran):
-            raise _tool.Failed(f"the record has {len(watched.ran)} callbacks, expected one of them", 2)
-        self.did, self.sites, self.told = watched.ran[self.number - 1]
+        self.rows, self.data, self.work, self.number = rows, watched.code, watched.work, watched.number
+        if not watched.ran:
+            raise _tool.Failed(f"the record has {watched.count} callbacks, expected one of them", 2)
+        self.did, self.sites, self.told = watched.ran
+        self.each, self.left = watched.cost, MOST_COST
 
     def __str__(self) -> str:
         return f"callback {self.number}, {replay.KINDS[self.did.kind]} {self.did.number}"
@@ -217,7 +227,10 @@ class Callback:
         return self.sites
 
     def values(self, most: int, first: int, memory: bool = False) -> List[int]:
-        """What a replay emits from the counter or the address `first` on: up to 64 numbers."""
+        """What a replay emits from the counter or the address `first` on: up to 64 numbers. The guest chooses how many replays that takes."""
+        if self.left < 0:
+            raise _tool.Failed("there is too much to read from so long a record")
+        self.left -= self.each
         code = LoopWriter(wasm.Module(self.data), most, self.rows[0][4], self.number, first, memory).written()
         if len(code) > MOST_BYTES:
             raise _tool.Failed(f"with the call tree the module has {len(code):,} bytes, more than {MOST_BYTES:,}")

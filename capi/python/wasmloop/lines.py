@@ -29,6 +29,7 @@ from . import _tool, runs, wasm
 PLACE = re.compile(r"\bat byte (\d+)")
 SECONDS, MOST_BYTES = 60, 64 << 20                      # of the symbolizer, and of what it prints, since the guest's DWARF may say anything
 MOST_STEPS = 30_000_000                                 # of comparing the functions of a module with those of its debug module
+MOST_FRAMES = 32                                        # of a place, the innermost
 KNOWN = ("llvm-symbolizer", "llvm-addr2line", *(f"llvm-symbolizer-{it}" for it in range(25, 10, -1)))
 
 
@@ -144,7 +145,7 @@ class Lines:
         asked = {it: address for it, address in new.items() if address is not None}
         if asked:
             for place, part in zip(asked, self._ask(asked.values()).split("\n\n")):
-                rows = part.strip().split("\n")
+                rows = part.strip().split("\n", 2 * MOST_FRAMES)[:2 * MOST_FRAMES]
                 frames = [(wasm.shown(name), *where.rsplit(":", 2)[:2]) for name, where in zip(rows[::2], rows[1::2])]
                 self.known[place] = [(name, file, int(line)) for name, file, line in frames if file != "??" and line != "0"]
         return [self.known[it] for it in places]

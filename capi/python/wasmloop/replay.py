@@ -17,6 +17,7 @@ from typing import Any, Callable, Dict, List, Optional, Sequence, Set
 
 from . import ENTERED, FAILED, NOT_RUN, OVER, RAN, SKIPPED, TIMERS, WORK_DONE, Did, Job, Loop, Module, _tool, lines
 
+MOST_STEPS = 10_000                                     # that a log has at a time
 PHASES, KINDS, WORKERS = "begin timers idle poll check closing".split(), "start main timer idle after async check close".split(), 16
 HELP = "n or Enter: next; b: back; g N: go to line N; c: continue to the failure or the end; w: where it failed; q: quit"
 
@@ -71,7 +72,7 @@ def failure(did: Did, where: Optional[str], depth: int) -> str:
 
 class Replay:
     """A loop that is driven by a record. `at` counts the rows so far, `log` has the lines of the last one, `told` its message; `failed` is set once
-    a callback did not return, and `full` if the record ended at its limit."""
+    a callback did not return, and `full` if the record ended at its limit. A row of many steps is run in parts: `left` counts those to come."""
 
     def __init__(self, rows: Rows) -> None:
         try:
@@ -80,15 +81,18 @@ class Replay:
             self.loop = Loop(Module(self.code), 0, fuel, work_fuel, depth)
         except (TypeError, ValueError) as why:
             raise Wrong(f"line 1 of the record: {why}") from None
-        self.rows, self.at, self.depth, self.failed, self.full, self.told = rows, 1, depth, False, False, ""
+        self.rows, self.at, self.depth, self.failed, self.full, self.told, self.left = rows, 1, depth, False, False, "", 0
         self.jobs: Dict[int, Job] = {}
         self.log: List[str] = []
 
     def next(self) -> bool:
-        """Runs the next row. Returns False if there is none."""
-        if self.at == len(self.rows):
+        """Runs the next row, or a part of it. Returns False if there is none."""
+        if self.at == len(self.rows) and not self.left:
             return False
         self.log, self.told = [], ""
+        if self.left:
+            self._step(self.left)
+            return True
         self.at += 1
         word, *more = self.rows[self.at - 1]
         method = getattr(self, f"_{word}", None)
@@ -105,7 +109,8 @@ class Replay:
             raise Differs(f"line {self.at} of the record: {what} was {was}, and now is {now}")
 
     def _step(self, count: int = 1) -> None:
-        for _ in range(count):
+        self.left = max(count - MOST_STEPS, 0)
+        for _ in range(min(count, MOST_STEPS)):
             self._one_step()
 
     def _full(self) -> None:
@@ -224,7 +229,7 @@ class Stepper:
         """Goes to this line of the record."""
         if line < self.replay.at:
             self.replay, self.last = Replay(self.rows), ""
-        while self.replay.at < line and self.replay.next():
+        while (self.replay.at < line or self.replay.left) and self.replay.next():
             self.last = self.replay.told or self.last
 
     def show(self) -> None:

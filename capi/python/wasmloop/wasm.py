@@ -112,6 +112,8 @@ def operations(data: bytes, at: int, end: int) -> Iterator[Operation]:
             op, count = 0xFC00 | wide, WIDE[wide]
         elif op > 0xD2:
             raise Malformed(f"byte {start}: unknown instruction {op:#x}")
+        if count > end - at:                            # (each takes a byte at least: no function is read past its end)
+            raise Malformed(f"byte {start}: an instruction that does not end in its function")
         for _ in range(count):
             _, at = number(data, at)
         at += BYTES.get(op, 0)
@@ -124,6 +126,8 @@ class Body:
     def __init__(self, data: bytes, start: int, end: int) -> None:
         self.data, self.start, self.end = data, start, end
         groups, at = number(data, start)
+        if groups > end - at:
+            raise Malformed(f"byte {start}: locals that do not end in their function")
         self.local_count = 0                            # without the parameters
         for _ in range(groups):
             count, at = number(data, at)

@@ -1,8 +1,9 @@
 """Tests the server: responses and limits, hostile tenants, a loop, modules that change, shutdown, and hostile clients.
 
-usage: test.py EDGE GUESTS PART..     EDGE: the program; GUESTS: a folder of modules; PART: functions, bounds, end, operators, page (by chromium), python,
-strict (by h11), vectors (of Twisted), attacks (by slowhttptest), clients, hostile (LOAD names the program of bench/load.c), or a number,
-which is the same as clients with that many connections that only stand (else 1,000)
+usage: test.py EDGE GUESTS PART..     EDGE: the program; GUESTS: a folder of modules; PART: functions, bounds, starts, end, operators, page (by chromium),
+python, forms (of requests), strict (by h11), twisted, h11 and llhttp (the requests of their tests; LLHTTP names the folder of llhttp's sources), attacks (by
+slowhttptest), clients, hostile (LOAD names the program of bench/load.c), or a number, which is the same as clients with that many connections
+that only stand (else 1,000)
 """
 import collections
 import concurrent.futures
@@ -13,6 +14,7 @@ import pathlib
 import random
 import re
 import resource
+import select
 import shutil
 import signal
 import socket
@@ -54,7 +56,7 @@ def until(what, done, seconds=60):
 class Server:
     """The program on a folder of its own and a free port. Deadlines are long by default: a busy machine is no failure."""
 
-    def __init__(self, *options, python=False, log=None, **confs):
+    def __init__(self, *options, python=False, log=None, within=(), **confs):
         self.folder = pathlib.Path(tempfile.mkdtemp())
         for it in GUESTS.glob("*.wasm"):
             shutil.copy(it, self.folder)
@@ -62,14 +64,14 @@ class Server:
             (self.folder / f"{name}.conf").write_text(PATIENT + confs.get(name, ""))
         shutil.copy(HERE.parent / "dashboard.html", self.folder)
         self.log = log or open(self.folder / "access", "w+")
-        self.python, self.options, self.process = python, options, None
+        self.python, self.options, self.process, self.within = python, options, None, within
         until("the server listens", self.listens, 120)
 
     def listens(self):
         """Starts it, again if another process has taken its port."""
         if not self.process or self.process.poll() is not None:
             self.port = free_port()
-            edge = [EDGE, "-p", str(self.port), "-w", "3", *self.options, str(self.folder)]
+            edge = [*self.within, EDGE, "-p", str(self.port), "-w", "3", *self.options, str(self.folder)]
             if self.python:
                 edge = ["/usr/bin/python3", HERE.parent / "edge.py", str(self.folder), str(self.port), "3"]
             self.process = subprocess.Popen(edge, stdout=self.log, stderr=subprocess.PIPE, text=True)
@@ -603,6 +605,81 @@ def descriptors():
     s.end()
 
 
+def few_descriptors():
+    """What is kept for modules no client takes: beside as many clients as may be, a module that was not read before is read."""
+    s = Server(within=("prlimit", "--nofile=60"))
+    with contextlib.closing(http.client.HTTPConnection("127.0.0.1", s.port, timeout=120)) as link:
+        link.request("POST", "/hello", b"you")
+        check(link.getresponse().read() == b"hello, you", "one that stands")
+        links = [s.connect(f"127.0.0.{n}") for n in range(2, 102)]
+        until("clients that are refused", lambda: any(head(it.recv(100, socket.MSG_DONTWAIT)) == 503 for it in links if readable(it)))
+        link.request("POST", "/crc32", b"abc")
+        got = link.getresponse().read()
+        check(got == b"\x35\x24\x41\xc2", "a module beside as many clients as may be", got)
+        for it in links:
+            it.close()
+    s.end()
+
+
+def readable(link):
+    return bool(select.select([link], [], [], 0)[0])
+
+
+def full_disk():
+    """A log that may not grow stops nothing: lost lines are counted, and once there is room it goes on."""
+    s = Server()
+    s.wants("its log", 200, "hello, you", "/hello", b"you")
+    resource.prlimit(s.process.pid, resource.RLIMIT_FSIZE, (4096, resource.RLIM_INFINITY))
+    get = b"GET /-/nothing HTTP/1.1\r\nHost: x\r\n\r\n"
+    got = s.raw(get * 3000 + b"no request\r\n\r\n")
+    check(got.count(b"HTTP/1.1 404") == 3000, "answers beside a full disk", got.count(b"HTTP/1.1 404"))
+    check(s.number("log_lines_lost_total") > 1000 and (s.folder / "access").stat().st_size <= 4096, "lines that are lost")
+    resource.prlimit(s.process.pid, resource.RLIMIT_FSIZE, (resource.RLIM_INFINITY,) * 2)
+    until("a log that goes on", lambda: (s.folder / "access").stat().st_size > 40000)
+    s.end()
+
+
+def unseen():
+    """What changes without an event, as on another machine's disk, is read at SIGHUP; what did not change is not loaded again."""
+    s = Server(hello="type text/plain\n")
+    with tempfile.TemporaryDirectory(dir=s.folder.parent) as other:
+        for name in "hello.wasm", "hello.conf":
+            os.link(s.folder / name, f"{other}/{name}")
+        s.wants("before", 200, "hello, abc", "/hello", b"abc")
+        s.wants("a loop", 200, "1", "/limiter/ask", b"10.0.0.7")
+        pathlib.Path(other, "hello.wasm").write_bytes((GUESTS / "crc32.wasm").read_bytes())
+        pathlib.Path(other, "hello.conf").write_text("type text/html\n")
+        time.sleep(0.3)
+        got = s.ask("/hello", b"abc")
+        check(got[1] == b"hello, abc" and got[2]["Content-Type"] == "text/plain", "a change that nobody tells", got[:2])
+        s.process.send_signal(signal.SIGHUP)
+        until("a module at SIGHUP", lambda: s.ask("/hello", b"abc")[1] == b"\x35\x24\x41\xc2")
+        check(s.ask("/hello", b"abc")[2]["Content-Type"] == "text/html", "a limit at SIGHUP")
+        check((s.number("loads_total", "limiter"), s.number("loads_total", "hello")) == (1, 2), "modules that did not change")
+    s.end()
+
+
+def starts():
+    """What is wanting when it starts is said in a sentence, and it ends with a status."""
+    with tempfile.TemporaryDirectory() as room, socket.create_server(("127.0.0.1", 0)) as taken:
+        os.chmod(room, 0o755)
+        program = shutil.copy(EDGE, room)
+        other = ("setpriv", "--reuid=65534", "--clear-groups") if os.getuid() == 0 else ()
+        port, here = str(taken.getsockname()[1]), (room,)
+        for what, words, status, text in (
+                ("descriptors", ("prlimit", "--nofile=6", program, *here), 1, r"edge: 6 files may be open: more than \d+ are needed"),
+                ("threads", (*other, "prlimit", "--nproc=1", program, *here), 1, r"edge: the threads of its pool \(-w\): "),
+                ("memory", ("prlimit", "--as=20000000", program, *here), 1, r"edge: the threads of its pool \(-w\): "),
+                ("a port that is taken", (program, "-p", port, *here), 1, f"edge: 127.0.0.1, port {port}: address already in use"),
+                ("a folder", (program, f"{room}/none"), 1, "edge: .*/none: no such file or directory"),
+                ("a word", (program, "-q", *here), 2, "usage: edge ")):
+            done = subprocess.run([str(it) for it in words], capture_output=True, text=True, check=False, timeout=60)
+            check(done.returncode == status and re.search(f"^{text}", done.stderr, re.M), f"no {what}", done.returncode, done.stderr)
+    few_descriptors()
+    full_disk()
+    unseen()
+
+
 def bounds():
     broken_too()
     s = Server("-t", "300", "-x", "127.0.0.1", slow=f"{ENDLESS}queue 4096\nrun 1\ndeadline 3600000\n", hello="type text/plain\n")
@@ -752,22 +829,35 @@ def python():
     check(set(got) <= {504, 503}, "the end", got)
 
 
+def by_script(what, script, *words, options=()):
+    """A script that is a client of the server: its last line is printed."""
+    s = Server(*options, hello="type text/plain\n")
+    done = subprocess.run(["/usr/bin/python3", HERE / script, str(s.port), *words], capture_output=True, text=True, check=False)
+    print(*done.stdout.strip().splitlines()[-1:], flush=True)
+    check(done.returncode == 0, what, *(it for it in done.stderr.splitlines() if it.startswith(script[:-3])))
+    s.end()
+
+
+def forms():
+    """Forms of requests that RFC 9112 refuses, and some that it doesn't."""
+    by_script("forms of requests", "forms.py")
+
+
 def strict():
     """A strict client on h11, a parser that others wrote."""
-    s = Server("-t", "60", hello="type text/plain\n")
-    done = subprocess.run(["/usr/bin/python3", HERE / "strict.py", str(s.port)], capture_output=True, text=True, check=False)
-    print(done.stdout.strip())
-    check(done.returncode == 0, "a strict client", done.stderr)
-    s.end()
+    by_script("a strict client", "strict.py", options=("-t", "60"))
 
 
-def vectors():
-    """The requests of Twisted's tests, with Twisted as the judge."""
-    s = Server()
-    done = subprocess.run(["/usr/bin/python3", HERE / "vectors.py", str(s.port)], capture_output=True, text=True, check=False)
-    print(done.stdout.strip())
-    check(done.returncode == 0, "requests of Twisted's tests", done.stderr)
-    s.end()
+def twisted():
+    by_script("requests of Twisted's tests", "vectors.py", "twisted", options=("-t", "2"))
+
+
+def h11():
+    by_script("requests of h11's tests", "vectors.py", "h11", options=("-t", "2"))
+
+
+def llhttp():
+    by_script("requests of llhttp's tests", "vectors.py", "llhttp", os.environ["LLHTTP"], options=("-t", "2"))
 
 
 # ---- hostile clients ----
@@ -806,6 +896,7 @@ def broken(s):
              ("two lengths", post + b"Content-Length: 1\r\nContent-Length: 2\r\n\r\nx", 400),
              ("length and chunks", post + b"Content-Length: 4\r\nTransfer-Encoding: chunked\r\n\r\n0\r\n\r\n", 400),
              ("chunks that aren't the last coding", post + b"Transfer-Encoding: chunked, identity\r\n\r\n0\r\n\r\n", 400),
+             ("extensions too long", post + b"Transfer-Encoding: chunked\r\n\r\n" + b"1;%s\r\na\r\n" % (b"a" * 1000) * 5 + b"0\r\n\r\n", 400),
              ("a page with such", b"GET /-/metrics HTTP/1.1\r\nHost: x\r\nTransfer-Encoding: xchunked\r\n\r\n", 400),
              ("no coding", post + b"Transfer-Encoding:\r\n\r\n", 400), ("another coding", post + b"Transfer-Encoding: gzip\r\n\r\n", 400),
              *((f"chunks of another coding: {it}", post + b"Transfer-Encoding: %s\r\n\r\n0\r\n\r\n" % it.encode(), 501)

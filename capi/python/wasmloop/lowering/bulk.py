@@ -127,19 +127,18 @@ end"""
 
 def assembled(text: str, variables: Mapping[str, int]) -> bytes:
     """The bytes of a text, in which variables stand for their numbers."""
-    rest, out = iter(text.split()), b""
+    rest, out = iter(text.split()), []
     for word in rest:
         if word in PLAIN:
-            out += PLAIN[word]
+            out.append(PLAIN[word])
         elif word in CONSTANTS:
-            out += bytes([CONSTANTS[word]]) + s(int(next(rest)))
+            out.append(bytes([CONSTANTS[word]]) + s(int(next(rest))))
         elif word in ACCESSES:
-            out += bytes([ACCESSES[word], 0]) + u(int(next(rest)))
+            out.append(bytes([ACCESSES[word], 0]) + u(int(next(rest))))
         else:
-            out += bytes([TAKING_A_NUMBER[word]])
             of = next(rest)
-            out += u(variables[of] if of in variables else int(of))
-    return out
+            out.append(bytes([TAKING_A_NUMBER[word]]) + u(variables[of] if of in variables else int(of)))
+    return b"".join(out)
 
 
 def function(text: str, parameters: Sequence[str], *variables: Tuple[str, int]) -> Added:

@@ -2,7 +2,7 @@
 
 from __future__ import annotations
 
-from typing import Sequence, Set, TYPE_CHECKING, Tuple
+from typing import Dict, Sequence, Set, TYPE_CHECKING, Tuple
 
 from .binary import CALL, CALL_INDIRECT, GLOBAL_GET, GLOBAL_SET, I32, Refused, constant, operations, u, vec
 
@@ -19,13 +19,28 @@ def who_unwinds(module: Module, made: Sequence[int]) -> Tuple[Set[int], bool]:
     """longjmp and who calls a function that may unwind, itself or through the table; and whether the table has one."""
     unwinding = {i for i in made if not module.imports[i][1].startswith("invoke_")}
     in_table = {f for _, functions in module.elements for f in functions}
-    calls = [calls_of(body) for _, body in module.bodies] if unwinding else []
-    first, size = len(module.imports), -1
-    while size != len(unwinding):
-        size, by_table = len(unwinding), bool(unwinding & in_table)
-        unwinding |= {first + k for k, (direct, indirect) in enumerate(calls)
-                      if direct & unwinding or indirect and by_table}
-    return unwinding, bool(unwinding & in_table)
+    callers, by_table = callers_of(module) if unwinding else ({}, set())
+    todo, may = list(unwinding), bool(unwinding & in_table)
+    while todo:
+        function = todo.pop()
+        found = callers.get(function, set()) | (by_table if function in in_table else set())
+        by_table = set() if function in in_table else by_table
+        may |= function in in_table
+        todo += found - unwinding
+        unwinding |= found
+    return unwinding, may
+
+
+def callers_of(module: Module) -> Tuple[Dict[int, Set[int]], Set[int]]:
+    """For each function those that call it, and the functions that call through the table."""
+    callers: Dict[int, Set[int]] = {}
+    by_table: Set[int] = set()
+    for k, (_, body) in enumerate(module.bodies, len(module.imports)):
+        direct, indirect = calls_of(body)
+        by_table |= {k} if indirect else set()
+        for function in direct:
+            callers.setdefault(function, set()).add(k)
+    return callers, by_table
 
 
 def calls_of(body: bytes) -> Tuple[Set[int], bool]:

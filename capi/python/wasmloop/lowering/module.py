@@ -3,7 +3,7 @@
 from __future__ import annotations
 
 import collections
-from typing import Callable, Counter, Dict, List, Optional, Sequence, Tuple
+from typing import Callable, Counter, Dict, List, Optional, Sequence, Set, Tuple
 
 from .binary import (END, EXCEPTIONS, F32, F32_CONST, F64, F64_CONST, FUNCTIONS, GLOBAL_GET, I32, I32_CONST, I64, I64_CONST,
                      LOWERED, NO_FUNCTIONS, OTHERS, REF_FUNC, REF_NULL, REFERENCES, THREADS, Declared, Item, Kind, Reader, Refused, constant, immediate, u,
@@ -13,6 +13,7 @@ SECTIONS = dict(zip("types imports functions tables memories globals exports sta
                     range(1, 12)))
 DATA_COUNT, TAGS = 12, 13
 ORDER = (1, 2, 3, 4, 5, TAGS, 6, 7, 8, 9, DATA_COUNT, 10, 11)
+MOST_PARAMETERS, MOST_RESULTS = 256, 16                # the host's limits
 PASSIVE, EXPLICIT, EXPRESSIONS = 1, 2, 4               # what the first number of a segment says
 EXPORTED = "function", "table", "memory", "global"
 KINDS = {I32_CONST: I32, I64_CONST: I64, F32_CONST: F32, F64_CONST: F64}
@@ -61,6 +62,7 @@ class Module:
             self.must_have("type", kind)
         self.exports = self.read("exports", self.exported)
         self.elements: List[Tuple[int, List[int]]] = []
+        self.filled: Set[int] = set()                  # the places of the table that a segment has
         self.element_count = len(self.read("elements", self.element_segment))
         self.bodies = self.read("code", self.body)
         self.data: List[Tuple[int, bytes]] = []
@@ -115,7 +117,10 @@ class Module:
     def type(r: Reader) -> Kind:
         if r.byte() != 0x60:
             raise Refused("a type that is no function's")
-        return bytes(value_type(t) for t in r.name()), bytes(value_type(t) for t in r.name())
+        kind = bytes(value_type(t) for t in r.name()), bytes(value_type(t) for t in r.name())
+        if len(kind[0]) > MOST_PARAMETERS or len(kind[1]) > MOST_RESULTS:
+            raise Refused(f"a type of {len(kind[0])} parameters and {len(kind[1])} results: {MOST_PARAMETERS} and {MOST_RESULTS} at most")
+        return kind
 
     @staticmethod
     def imported(r: Reader) -> Tuple[str, str, int]:
@@ -205,6 +210,7 @@ class Module:
         for i, function in enumerate(functions + [None]):
             if function is not None:
                 run.append(function)
+                self.filled.add(at + i)
             elif run or not functions:
                 self.elements.append((at + i - len(run), run))
                 run = []
@@ -219,8 +225,7 @@ class Module:
     def look_at_nulls(self, at: int, functions: Sequence[Optional[int]]) -> None:
         """A null is left out, which is right where nothing else stands, and where the segment fits."""
         least = Reader(self.tables[0], 2).u() if self.tables else 0
-        filled = {a + i for a, those in self.elements for i in range(len(those))}
-        if at + len(functions) > least or any(f is None and at + i in filled for i, f in enumerate(functions)):
+        if at + len(functions) > least or any(f is None and at + i in self.filled for i, f in enumerate(functions)):
             raise Refused("a null in an element segment that doesn't fit the table, or over an earlier element")
 
     def data_segment(self, r: Reader) -> None:

@@ -30,6 +30,7 @@ class Lowering:
     def __init__(self, module: Module, soft: Optional[Module]) -> None:
         self.old, self.soft = module, soft
         self.soft_exports = {n.decode(): i for n, kind, i in soft.exports if kind == 0} if soft else {}
+        self.threw = next((i for n, _, i in module.exports if n == b"guest_threw"), None)
         self.kept = [i for i, (m, _, _) in enumerate(module.imports) if m == "uv"]
         self.made = [i for i, (m, _, _) in enumerate(module.imports) if m != "uv"]
         for i in self.made:
@@ -39,6 +40,7 @@ class Lowering:
         self.number.update({imports + i: len(self.kept) + i for i in range(defined)})
         self.number.update({old: len(self.kept) + defined + i for i, old in enumerate(self.made)})
         self.types, self.function_types = [lowered_type(kind) for kind in module.types], list(module.functions)
+        self.type_numbers = {kind: k for k, kind in reversed(list(enumerate(self.types)))}
         self.bodies: List[bytes] = []
         self.marks = tables.Marks(module)
         self.spare: Optional[int] = None
@@ -179,8 +181,10 @@ class Lowering:
             self.made_function(*self.old.imports[i][1:])
         done = 0
         while done < len(self.added):                  # what they call gets numbers on the way
-            self.added_function(*list(self.added)[done])
-            done += 1
+            some = list(self.added)[done:]
+            for key in some:
+                self.added_function(*key)
+            done += len(some)
 
     def made_function(self, field: str, kind: int) -> None:
         """What stands for an import of setjmp's."""
@@ -190,17 +194,17 @@ class Lowering:
             called = self.old.types[kind][0][1:], self.old.types[kind][1]
             body = jumps.invoke(self.flag, parameters, self.type_number(self.marks.type(called)), self.marks.of(called))
         else:
-            threw = next((i for n, k, i in self.old.exports if n == b"guest_threw"), None)
-            if threw is None:
+            if self.threw is None:
                 raise Refused("longjmp without setjmp.c: link it")
-            body = jumps.longjmp(self.flag, parameters, self.number[threw])
+            body = jumps.longjmp(self.flag, parameters, self.number[self.threw])
         self.sizes["jumps"] += len(body)
         self.bodies.append(body)
 
     def type_number(self, kind: Kind) -> int:
-        if kind not in self.types:
+        if kind not in self.type_numbers:
+            self.type_numbers[kind] = len(self.types)
             self.types.append(kind)
-        return self.types.index(kind)
+        return self.type_numbers[kind]
 
     def added_function(self, what: str, index: int = 0) -> None:
         if what == "soft":

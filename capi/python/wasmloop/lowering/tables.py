@@ -7,12 +7,11 @@ function that takes them and calls the one that was there.
 
 from __future__ import annotations
 
-from typing import Dict, Set, TYPE_CHECKING
+import collections
+from typing import Counter, Dict, Set
 
 from .binary import CALL_INDIRECT, I32, LOWERED, Kind, Refused, constant, lowered_type, operations, u, vec
-
-if TYPE_CHECKING:
-    from .module import Module
+from .module import MOST_PARAMETERS, Module
 
 CALLBACK = bytes([I32]), b""                           # what the host calls through the table
 
@@ -26,15 +25,18 @@ class Marks:
             self.counts: Dict[Kind, int] = {}
             return
         called, placed = called_types(module), {module.types[module.type_of(f)] for _, those in module.elements for f in those}
-        self.counts, taken = {}, {lowered_type(kind) for kind in called | placed}
+        self.counts, alike = {}, collections.Counter(map(lowered_type, called | placed))
+        taken = set(alike)
+        next_free: Counter[Kind] = collections.Counter()
         for kind in sorted(called | placed):
-            others = {it for it in called | placed if it != kind and lowered_type(it) == lowered_type(kind)}
-            if kind == lowered_type(kind) or not others:
+            if kind == lowered_type(kind) or alike[lowered_type(kind)] == 1:
                 continue
-            count = 1
+            count = next_free[lowered_type(kind)] + 1
             while self.marked(kind, count) in taken:
                 count += 1
-            self.counts[kind] = count
+            if len(kind[0]) + count > MOST_PARAMETERS:
+                raise Refused("types in the table that become one, more than parameters can distinguish")
+            self.counts[kind] = next_free[lowered_type(kind)] = count
             taken.add(self.marked(kind, count))
 
     @staticmethod

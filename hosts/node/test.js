@@ -52,8 +52,10 @@ const tests = {
     const running = it.callAsync('spin', [1], { signal: AbortSignal.timeout(20) });
     assert.throws(() => it.call('score', 1), { code: 'BUSY' });
     await assert.rejects(running, { name: 'TimeoutError' });
-    assert.throws(() => it.call('score', 1), /aborted/);
-    await assert.rejects(it.callAsync('score', [1]), /aborted/);
+    assert.equal(it.call('score', 5), 162n);
+    assert.equal(await it.callAsync('running', [3]), 3n);
+    for (const name of ['spin', 'grow', 'copies']) await within(1000, () => assert.rejects(it.callAsync(name, [1], { signal: AbortSignal.timeout(20) }), { name: 'TimeoutError' }));
+    assert.equal(it.call('running', 4n), 7n);              // the instance and its state live on
   },
   'timers beside long requests': async () => {
     let ticks = 0;

@@ -42,13 +42,13 @@ want "$(printf '\n' | redis-cli -s "$room/a" -x wl.call rules 0 2>&1; cli a wl.c
 want "$(head -c 65537 /dev/zero | redis-cli -s "$room/a" -x wl.call rules 0)" "ERR more than 65536 bytes" "65,537 bytes"
 # hostile guests, pings beside them
 like "$(cli a wl.call rules 2 x)" "ERR an access outside the memory, after 22 units, in function 13 (uv_work)*" "a trap"
-like "$(cli a wl.call rules 6 x)" "ERR call stack exhausted, *" "deep"
+like "$(cli a wl.call rules 6 x)" "ERR call-depth limit exceeded, *" "deep"
 for op in 1 4 5; do
     within 2500 "a deadline of 500 ms, operation $op" cli a wl.call rules $op x
     like "$said" "ERR deadline, after * units, in function *" "a deadline, operation $op"
 done
 load few 1000000 > /dev/null
-like "$(cli a wl.call few 1 x)" "ERR out of fuel, after 1000000 units, *" "fuel"
+like "$(cli a wl.call few 1 x)" "ERR out of fuel, after 1,000,000 units, *" "fuel"
 load rules 100000000000 3000 > /dev/null
 for i in 1 2 3 4; do cli a wl.call rules 1 x > "$room/rest$i" & rest[i]=$!; done
 sleep 0.1

@@ -122,7 +122,7 @@ static int reply(RedisModuleCtx *ctx, call *c)
     uint64_t n = 0;
     char text[900] = "ERR ";
     if (wasmloop_job_view(&c->job, &bytes, &n) == WASMLOOP_OK) return RM_ReplyWithStringBuffer(ctx, n ? (const char *)bytes : "", n);
-    host_job_ended(c->plugin->bytes, c->plugin->length, &c->job, c->late, text + 4, sizeof text - 4);
+    host_job_ended(&c->job, c->late, text + 4, sizeof text - 4);
     return RM_ReplyWithError(ctx, text);
 }
 

@@ -121,7 +121,7 @@ class Loop {                                               // lives on node's ow
     this.#jobs.set(request, job);
     const told = await native.pool(job);
     this.#jobs.delete(request);
-    if (told.over) this.#later(() => native.accept(this.#handle, job));
+    this.#later(() => { if (told.over) native.accept(this.#handle, job); });      // also one that was stopped: others may wait for its place
   }
   #turn() {
     this.#now = false;

@@ -1,15 +1,19 @@
-/* What the hosts of this folder share: why a module is rejected, and why and where a guest stopped, as one line of printable ASCII. The names of a
- * guest's functions are its own, so they are not trusted to be fit for a log, a protocol or an encoding. Header only; C99. */
+/* What the hosts of this folder share: calls in slices that the host can end, and why a module is rejected and why and where a guest stopped, as one
+ * line of printable ASCII. The names of a guest's functions are its own, so they are not trusted to be fit for a log, a protocol or an encoding. Header
+ * only; C99. */
 #ifndef HOST_H
 #define HOST_H
 #include <stdio.h>
 #include <string.h>
 #include "wasmloop.h"
 
-/* A call with at most so much fuel is over within some milliseconds: it is made at once, which costs a tenth of a call in slices. */
-#define HOST_AT_ONCE 1000000
+/* Units between two looks at what may end a call: some hundred microseconds. */
+#define HOST_SLICE 100000
+/* The most units of a start function, which runs at once: some milliseconds. */
+#define HOST_START 1000000
 
-static inline size_t host_end(char *text, size_t room, uint64_t count)
+/* Makes a line of what the library wrote, `count` bytes of which `room` - 1 are there, and returns its length. */
+static inline size_t host_line(char *text, size_t room, uint64_t count)
 {
     size_t n = count < room ? (size_t)count : room - 1;
     for (size_t i = 0; i < n; i++)
@@ -23,48 +27,58 @@ static inline int host_load(const void *bytes, size_t length, wasmloop_handle *m
 {
     wasmloop_fault fault;
     uint64_t n = 0;
-    int status = wasmloop_load((const uint8_t *)bytes, length, module, &fault);
-    *why = 0;
-    if (status == WASMLOOP_REFUSED && wasmloop_explain((const uint8_t *)bytes, length, why, room - 1, &n) == WASMLOOP_OK) host_end(why, room, n);
-    else if (status != WASMLOOP_OK) snprintf(why, room, "%s", status == WASMLOOP_MEMORY ? "out of memory" : wasmloop_status_name(status));
+    int status = wasmloop_load_told((const uint8_t *)bytes, length, module, &fault, why, room - 1, &n);
+    if (status == WASMLOOP_OK || status == WASMLOOP_REFUSED) host_line(why, room, n);
+    else snprintf(why, room, "%s", wasmloop_status_text(status));
     return status;
 }
 
-static inline const char *host_why(uint32_t ending, uint32_t trap)
+/* Makes an instance for calls with these limits. Its start function has no more than HOST_START units. */
+static inline int host_instance(const wasmloop_handle *module, wasmloop_call_limits limits, wasmloop_handle *instance, wasmloop_ended *ended)
 {
-    const char *name = ending == WASMLOOP_TRAP ? wasmloop_trap_name(trap) : NULL;
-    return name ? name : ending == WASMLOOP_SPENT ? "out of fuel" : ending == WASMLOOP_DEPTH ? "call stack exhausted" : "it returned";
+    if (limits.fuel > HOST_START) limits.fuel = HOST_START;
+    return wasmloop_instance(module, &limits, instance, ended);
 }
 
-/* "out of fuel, after 1000000 units, in function 7 (spin), instruction 0 (loop) at byte 358": how a call ended that did not return. */
-static inline size_t host_ended(const void *bytes, size_t length, wasmloop_handle *of, const wasmloop_ended *e, char *into, size_t room)
+/* Calls an export in slices. Between two it asks whether the host ends the call: then *over is 0, *ended has the fuel that it has used, and the instance
+ * keeps its state. A call that is over in its first slice asks nothing. */
+static inline int host_call(wasmloop_handle *instance, uint64_t number, const uint64_t *args, size_t count, const wasmloop_call_limits *limits,
+    int (*ends)(void *), void *data, uint32_t *over, wasmloop_ended *ended)
 {
-    int at = snprintf(into, room, "%s, after %llu units, ", host_why(e->ending, e->trap), (unsigned long long)e->used);
+    int status = wasmloop_call_for(instance, number, args, count, limits, HOST_SLICE, over, ended);
+    while (status == WASMLOOP_OK && !*over) {
+        if (ends(data)) return wasmloop_call_end(instance, ended);
+        status = wasmloop_call_run_for(instance, HOST_SLICE, over, ended);
+    }
+    return status;
+}
+
+/* Appends where a run stopped to `at` bytes of text, if it is known. */
+static inline size_t host_place(wasmloop_handle *of, char *into, size_t room, uint64_t at)
+{
     uint64_t n = 0;
-    if (at < 2 || (size_t)at >= room - 1) return strlen(into);
-    if (wasmloop_stop_told((const uint8_t *)bytes, length, of, into + at, room - 1 - (size_t)at, &n) != WASMLOOP_OK) n = 0, at -= 2;
-    return (size_t)at + host_end(into + at, room - (size_t)at, n);
+    if (at + 3 > room || wasmloop_stop_told(NULL, 0, of, into + at + 2, room - 3 - (size_t)at, &n) != WASMLOOP_OK) return host_line(into, room, at);
+    memcpy(into + at, ", ", 2);
+    return host_line(into, room, at + 2 + n);
+}
+
+/* "out of fuel, after 1,000,000 units, in function 7 (spin), instruction 0 (loop) at byte 358": how a call ended that did not return. */
+static inline size_t host_ended(wasmloop_handle *of, const wasmloop_ended *ended, char *into, size_t room)
+{
+    uint64_t n = 0;
+    if (wasmloop_ended_text(ended->ending, ended->trap, ended->used, into, room - 1, &n) != WASMLOOP_OK) n = 0;
+    return host_place(of, into, room, n);
 }
 
 /* The same of a job, which may be paused: `late` is then what ended it, as "deadline". */
-static inline size_t host_job_ended(const void *bytes, size_t length, wasmloop_handle *job, const char *late, char *into, size_t room)
+static inline size_t host_job_ended(wasmloop_handle *job, const char *late, char *into, size_t room)
 {
-    wasmloop_about a;
-    wasmloop_ended e;
-    const char *rest;
-    size_t n;
-    memset(&a, 0, sizeof a);
-    memset(&e, 0, sizeof e);
-    wasmloop_job_about(job, &a);
-    e.used = a.used;
-    e.trap = a.value;
-    e.ending = a.outcome == WASMLOOP_WORK_TRAP ? WASMLOOP_TRAP : a.outcome == WASMLOOP_WORK_DEPTH ? WASMLOOP_DEPTH : WASMLOOP_SPENT;
-    if (a.outcome == WASMLOOP_WORK_MEMORY) return (size_t)snprintf(into, room, "out of memory");
-    n = host_ended(bytes, length, job, &e, into, room);
-    rest = strchr(into, ',');
-    if (!late || !rest || strlen(late) + strlen(rest) >= room) return n;
-    memmove(into + strlen(late), rest, strlen(rest) + 1);
-    memcpy(into, late, strlen(late));
-    return strlen(into);
+    wasmloop_about about;
+    char text[120];
+    uint64_t n = 0;
+    if (wasmloop_job_about(job, &about) != WASMLOOP_OK || wasmloop_outcome_text(about.outcome, about.value, about.used, text, sizeof text - 1, &n) != WASMLOOP_OK) n = 0;
+    text[n < sizeof text ? n : sizeof text - 1] = 0;
+    snprintf(into, room, "%s%s", late ? late : "", late ? text + strcspn(text, ",") : text);
+    return host_place(job, into, room, strlen(into));
 }
 #endif

@@ -122,13 +122,22 @@ func TestHostile(t *testing.T) {
 	}
 	ctx, cancel := context.WithTimeout(bg, 50*time.Millisecond)
 	defer cancel()
-	long := made(t, m, Limits{Fuel: 1 << 50})
-	if _, err := long.Call(ctx, fn(t, m, "spin"), 1); err != context.DeadlineExceeded {
-		t.Error(err)
+	long, running := made(t, m, Limits{Fuel: 1 << 50}), fn(t, m, "running")
+	if x, err := long.Call(ctx, running, 3); x != 3 || err != nil {
+		t.Error(x, err)
 	}
-	if _, err := long.Call(bg, fn(t, m, "score"), 1); err != ErrClosed {
-		t.Error(err)
+	for _, name := range []string{"spin", "grow", "copies"} {
+		ctx, cancel := context.WithTimeout(bg, 50*time.Millisecond)
+		began := time.Now()
+		if _, err := long.Call(ctx, fn(t, m, name), 1); err != context.DeadlineExceeded || time.Since(began) > 500*time.Millisecond {
+			t.Error(name, err, time.Since(began))
+		}
+		cancel()
 	}
+	if x, err := long.Call(bg, running, 4); x != 7 || err != nil { // the instance and its state live on
+		t.Error(x, err)
+	}
+	<-ctx.Done()
 	if _, err := i.Call(ctx, fn(t, m, "score"), 1); err != context.DeadlineExceeded {
 		t.Error(err)
 	}
@@ -286,16 +295,6 @@ func BenchmarkCall(b *testing.B) {
 func BenchmarkCallContext(b *testing.B) {
 	m := guest(b, rules)
 	i, f := made(b, m, Limits{}), fn(b, m, "score")
-	ctx, cancel := context.WithCancel(bg)
-	defer cancel()
-	for k := 0; k < b.N; k++ {
-		i.Call(ctx, f, 5)
-	}
-}
-
-func BenchmarkCallSliced(b *testing.B) {
-	m := guest(b, rules)
-	i, f := made(b, m, Limits{Fuel: atOnce + 1}), fn(b, m, "score")
 	ctx, cancel := context.WithCancel(bg)
 	defer cancel()
 	for k := 0; k < b.N; k++ {

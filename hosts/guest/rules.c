@@ -124,3 +124,12 @@ EXPORT(known) int32_t known(uint32_t nulls, const char *text, uint32_t size, cha
     __builtin_memmove(into, text, size);
     return (int32_t)size;
 }
+
+/* The hash of a number for an index, which keeps a state: a 13 never ends, and behind one a 99 fails. */
+static int32_t seen;
+EXPORT(hashed) int32_t hashed(int64_t x)
+{
+    if (x == 13) seen = 1, spin(x);
+    if (x == 99 && seen) __builtin_trap();
+    return (int32_t)x;
+}

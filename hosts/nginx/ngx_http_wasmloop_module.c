@@ -24,12 +24,7 @@
 #define SLICES 5                    /* of an iteration of the event loop, all requests together */
 #define MOST   65536                /* bytes of input */
 
-typedef struct {                    /* what a `wasmloop` has loaded */
-    wasmloop_handle module;
-    u_char *bytes;                  /* wasmloop_stop_told wants them */
-    size_t length;
-    ngx_uint_t op;
-} loaded_t;
+typedef struct { wasmloop_handle module; ngx_uint_t op; } loaded_t;         /* what a `wasmloop` has loaded */
 
 typedef struct {
     loaded_t *loaded;
@@ -82,10 +77,7 @@ static void drop_job(void *data)
     (void) wasmloop_drop(&c->job);
 }
 
-static void drop_module(void *data)
-{
-    (void) wasmloop_drop(data);
-}
+static void drop_module(void *data) { (void) wasmloop_drop(data); }
 
 static ngx_int_t respond(ngx_http_request_t *r, ngx_str_t type, const u_char *bytes, size_t length)
 {
@@ -121,7 +113,7 @@ static ngx_int_t finish(ctx_t *c)
     char told[900];
     (void) wasmloop_job_about(&c->job, &c->about);
     if (!c->late && wasmloop_job_view(&c->job, &bytes, &length) == WASMLOOP_OK) return respond(r, conf->type, bytes, length);
-    (void) host_job_ended(conf->loaded->bytes, conf->loaded->length, &c->job, c->late, told, sizeof told);
+    (void) host_job_ended(&c->job, c->late, told, sizeof told);
     ngx_log_error(NGX_LOG_ERR, r->connection->log, 0, "wasmloop: %s", told);
     return c->late || c->about.outcome == WASMLOOP_WORK_SPENT ? NGX_HTTP_GATEWAY_TIME_OUT
         : c->about.outcome == WASMLOOP_WORK_MEMORY ? NGX_HTTP_SERVICE_UNAVAILABLE : NGX_HTTP_INTERNAL_SERVER_ERROR;
@@ -273,18 +265,34 @@ static ngx_int_t init_counters(ngx_shm_zone_t *zone, void *old)
     return counters ? NGX_OK : NGX_ERROR;
 }
 
+/* Reads a file of the configuration: a module has at most 2^20 bytes. */
+static ngx_int_t read_file(ngx_conf_t *cf, ngx_str_t *path, ngx_str_t *bytes)
+{
+    ngx_file_t file;
+    ngx_file_info_t info;
+    ssize_t n;
+    ngx_memzero(&file, sizeof file);
+    file.name = *path;
+    file.log = cf->log;
+    file.fd = ngx_open_file(path->data, NGX_FILE_RDONLY, NGX_FILE_OPEN, 0);
+    if (file.fd == NGX_INVALID_FILE) return NGX_ERROR;
+    n = ngx_fd_info(file.fd, &info) == NGX_FILE_ERROR ? NGX_ERROR : 0;
+    bytes->len = n ? 0 : ngx_min(ngx_file_size(&info), 1 << 21);
+    bytes->data = ngx_palloc(cf->temp_pool, bytes->len + 1);
+    n = n || bytes->data == NULL ? NGX_ERROR : ngx_read_file(&file, bytes->data, bytes->len, 0);
+    ngx_close_file(file.fd);
+    return n == (ssize_t) bytes->len ? NGX_OK : NGX_ERROR;
+}
+
 static char *set_module(ngx_conf_t *cf, ngx_command_t *cmd, void *at)
 {
     conf_t *conf = at;
-    ngx_str_t *value = cf->args->elts, path = value[1];
+    ngx_str_t *value = cf->args->elts, path = value[1], bytes;
     ngx_http_core_loc_conf_t *core = ngx_http_conf_get_module_loc_conf(cf, ngx_http_core_module);
     ngx_pool_cleanup_t *cleanup = ngx_pool_cleanup_add(cf->pool, 0);
     loaded_t *m = ngx_pcalloc(cf->pool, sizeof *m);
     wasmloop_shape shape;
-    ngx_file_t file;
-    ngx_file_info_t info;
     ngx_int_t op = 0;
-    ssize_t n;
     char why[300];
     (void) cmd;
     if (conf->loaded) return "is duplicate";
@@ -292,24 +300,11 @@ static char *set_module(ngx_conf_t *cf, ngx_command_t *cmd, void *at)
     cleanup->handler = drop_module;         /* with the configuration, also one that fails */
     cleanup->data = &m->module;
     if (cf->args->nelts > 2 && ((op = ngx_atoi(value[2].data, value[2].len)) == NGX_ERROR || op > UINT32_MAX)) return "has an invalid operation";
-    ngx_memzero(&file, sizeof file);
-    file.name = path;
-    file.log = cf->log;
-    file.fd = ngx_open_file(path.data, NGX_FILE_RDONLY, NGX_FILE_OPEN, 0);
-    if (file.fd == NGX_INVALID_FILE) {
-        ngx_conf_log_error(NGX_LOG_EMERG, cf, ngx_errno, "wasmloop: cannot open \"%V\"", &path);
+    if (read_file(cf, &path, &bytes) != NGX_OK) {
+        ngx_conf_log_error(NGX_LOG_EMERG, cf, ngx_errno, "wasmloop: cannot read \"%V\"", &path);
         return NGX_CONF_ERROR;
     }
-    n = ngx_fd_info(file.fd, &info) == NGX_FILE_ERROR ? NGX_ERROR : 0;
-    m->length = n ? 0 : ngx_min(ngx_file_size(&info), 1 << 21);         /* a module has at most 2^20 bytes */
-    m->bytes = ngx_palloc(cf->pool, m->length + 1);
-    n = n || m->bytes == NULL ? NGX_ERROR : ngx_read_file(&file, m->bytes, m->length, 0);
-    ngx_close_file(file.fd);
-    if (n != (ssize_t) m->length) {
-        ngx_conf_log_error(NGX_LOG_EMERG, cf, 0, "wasmloop: cannot read \"%V\"", &path);
-        return NGX_CONF_ERROR;
-    }
-    if (host_load(m->bytes, m->length, &m->module, why, sizeof why) == WASMLOOP_OK
+    if (host_load(bytes.data, bytes.len, &m->module, why, sizeof why) == WASMLOOP_OK
         && (wasmloop_shape_of(&m->module, &shape) != WASMLOOP_OK || !shape.work)) ngx_memcpy(why, "it exports no uv_work", 22);
     if (*why) {
         ngx_conf_log_error(NGX_LOG_EMERG, cf, 0, "wasmloop: \"%V\": %s", &path, why);

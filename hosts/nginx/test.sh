@@ -89,7 +89,7 @@ want "$(get "$url/q?name=A%20B")" "get-a-20b|200" "wasmloop_input"
 want "$(get -d 'If So' "$url/if?a=1") $(code -X PUT -d x $url/if)" "if-so|200 403" "an if and a limit_except within the location"
 want "$(get $url/page.shtml)" "[||get]||200" "subrequests"
 want "$(code $url/trap) $(code $url/spent) $(code $url/deep) $(code $url/grow) $(code $url/copies)" "500 504 500 504 504" "hostile guests"
-for each in 'an access outside the memory, after 22 units, in function 13 (uv_work)' 'out of fuel, after 1000000 units' 'call stack exhausted' 'deadline, after'; do
+for each in 'an access outside the memory, after 22 units, in function 13 (uv_work)' 'out of fuel, after 1,000,000 units' 'call-depth limit exceeded' 'deadline, after'; do
     want "$(grep -c "$each" "$room/logs/error.log" | sed 's/^[1-9][0-9]*$/yes/')" yes "the error log says: $each"
 done
 want "$(get $url/spin)" "too late|504" "a deadline, and error_page"

@@ -7,13 +7,10 @@
 #include <stdlib.h>
 #include "../host.h"
 
-#define SLICE 100000
 #define SLICES 4                /* of a turn on the pool: some milliseconds, then files and names that wait there have theirs */
 
 typedef struct thing {
     wasmloop_handle handle;
-    uint8_t *bytes;             /* of a module, or NULL */
-    size_t length;
     atomic_int busy;            /* a pool thread has it */
     atomic_int stop;
     wasmloop_call_limits limits; /* of an instance's calls */
@@ -36,7 +33,6 @@ static void finalize(napi_env env, void *at, void *hint)
     (void)hint;
     if (t->held) napi_delete_reference(env, t->held);
     wasmloop_drop(&t->handle);
-    free(t->bytes);
     free(t);
 }
 
@@ -71,12 +67,12 @@ static napi_value status(napi_env env, int s, napi_value v) { return s == WASMLO
 static napi_value load(napi_env env, napi_callback_info info)
 {
     ARGS(1);
-    thing *t; uint8_t *at; size_t length; char why[400]; int s;
+    thing *t; uint8_t *at, *copy; size_t length; char why[400]; int s;
     if (!bytes_of(env, v[0], &at, &length) || !(t = made(env))) return NULL;
-    t->bytes = malloc(length + 1);
-    if (t->bytes && length) memcpy(t->bytes, at, length);        /* a thread may write a SharedArrayBuffer: only the copy is loaded and told of */
-    t->length = length;
-    s = t->bytes ? host_load(t->bytes, length, &t->handle, why, sizeof why) : WASMLOOP_MEMORY;
+    copy = malloc(length + 1);
+    if (copy && length) memcpy(copy, at, length);                /* a thread may write a SharedArrayBuffer: only the copy is loaded */
+    s = copy ? host_load(copy, length, &t->handle, why, sizeof why) : WASMLOOP_MEMORY;
+    free(copy);
     if (s == WASMLOOP_OK) return external(env, t);
     finalize(env, t, NULL);
     return s == WASMLOOP_REFUSED ? fail(env, "REFUSED", why) : status(env, s, NULL);
@@ -101,15 +97,15 @@ static napi_value type_of(napi_env env, napi_callback_info info)
     return o;
 }
 
-static napi_value told(napi_env env, thing *module, wasmloop_handle *of)
+static napi_value told(napi_env env, wasmloop_handle *of)
 {
     char text[1000]; uint64_t n = 0; napi_value v;
-    if (wasmloop_stop_told(module->bytes, module->length, of, text, sizeof text - 1, &n) != WASMLOOP_OK) n = 0;
-    napi_create_string_latin1(env, text, host_end(text, sizeof text, n), &v);
+    if (wasmloop_stop_told(NULL, 0, of, text, sizeof text - 1, &n) != WASMLOOP_OK) n = 0;
+    napi_create_string_latin1(env, text, host_line(text, sizeof text, n), &v);
     return v;
 }
 
-static napi_value ended_of(napi_env env, thing *module, thing *t, const wasmloop_ended *e, uint32_t over)
+static napi_value ended_of(napi_env env, thing *t, const wasmloop_ended *e, uint32_t over)
 {
     napi_value o, a;
     napi_create_object(env, &o);
@@ -121,26 +117,25 @@ static napi_value ended_of(napi_env env, thing *module, thing *t, const wasmloop
     set(env, o, "ending", number(env, e->ending));
     set(env, o, "trap", number(env, e->trap));
     set(env, o, "used", big(env, e->used));
-    if (e->ending) set(env, o, "where", told(env, module, &t->handle));
+    if (e->ending) set(env, o, "where", told(env, &t->handle));
     return o;
 }
 
-/* instance(module, fuel, depth): the start function runs at once, with at most HOST_AT_ONCE units */
+/* instance(module, fuel, depth) */
 static napi_value instance(napi_env env, napi_callback_info info)
 {
     ARGS(3);
-    thing *m = get(env, v[0]), *t; wasmloop_ended e; int s; napi_value buffer; void *at;
+    thing *m = get(env, v[0]), *t; wasmloop_ended e; int s; napi_value buffer; void *at; char why[100];
     if (!m || !(t = made(env))) return NULL;
     t->limits = (wasmloop_call_limits){ u64(env, v[1]), u32(env, v[2]), 0 };
-    wasmloop_call_limits start = t->limits;
-    if (start.fuel > HOST_AT_ONCE) start.fuel = HOST_AT_ONCE;
-    s = wasmloop_instance(&m->handle, &start, &t->handle, &e);
+    s = host_instance(&m->handle, t->limits, &t->handle, &e);
     if (s == WASMLOOP_OK && napi_create_arraybuffer(env, 272 * sizeof *t->words, &at, &buffer) == napi_ok && napi_create_reference(env, buffer, 1, &t->held) == napi_ok) {
         t->words = at;
         return external(env, t);
     }
+    if (s == WASMLOOP_NOT_STARTED) host_ended(&t->handle, &e, why, sizeof why);
     finalize(env, t, NULL);
-    return s == WASMLOOP_OK ? NULL : s == WASMLOOP_NOT_STARTED ? fail(env, "NOT_STARTED", host_why(e.ending, e.trap)) : status(env, s, NULL);
+    return s == WASMLOOP_OK ? NULL : s == WASMLOOP_NOT_STARTED ? fail(env, "NOT_STARTED", why) : status(env, s, NULL);
 }
 
 static uint64_t args_of(napi_env env, napi_value list, uint64_t *args)
@@ -175,38 +170,39 @@ static napi_value call_at(napi_env env, napi_callback_info info)
     return o;
 }
 
-/* last(module, instance): the whole outcome of the last call */
+/* last(instance): the whole outcome of the last call */
 static napi_value last(napi_env env, napi_callback_info info)
 {
-    ARGS(2);
-    thing *m = get(env, v[0]), *t = m ? get(env, v[1]) : NULL;
-    return t ? ended_of(env, m, t, &t->ended, 1) : NULL;
+    ARGS(1);
+    thing *t = get(env, v[0]);
+    return t ? ended_of(env, t, &t->ended, 1) : NULL;
 }
 
-static napi_value begin(napi_env env, napi_callback_info info)
-{
-    ARGS(5);
-    thing *t = get(env, v[0]); uint64_t args[256]; char name[300]; size_t n;
-    if (!t) return NULL;
-    napi_get_value_string_utf8(env, v[1], name, sizeof name, &n);
-    wasmloop_call_limits limits = { u64(env, v[3]), u32(env, v[4]), 0 };
-    return status(env, wasmloop_call_begin(&t->handle, name, args, args_of(env, v[2], args), &limits), NULL);
-}
-
-/* What runs on the pool: a job, or a call that has begun. */
-typedef struct task { napi_async_work work; napi_deferred done; napi_ref refs[2]; thing *module, *of; int call; int s; uint32_t over; wasmloop_ended e; } task;
+/* What runs on the pool: a job, or a call of an instance. */
+typedef struct task {
+    napi_async_work work; napi_deferred done; napi_ref ref; thing *of;
+    int call, begun, s; uint32_t over; wasmloop_ended e; uint64_t at, n, args[256];
+} task;
 
 static int goes_on(task *k) { return !k->over && k->s == WASMLOOP_OK && !atomic_load(&k->of->stop) && !atomic_load(&quitting); }
+
+static int slice(task *k)
+{
+    wasmloop_handle *of = &k->of->handle;
+    if (!k->call) return wasmloop_job_run_for(of, HOST_SLICE, &k->over);
+    if (k->begun) return wasmloop_call_run_for(of, HOST_SLICE, &k->over, &k->e);
+    k->begun = 1;
+    return wasmloop_call_for(of, k->at, k->args, k->n, &k->of->limits, HOST_SLICE, &k->over, &k->e);
+}
 
 static void execute(napi_env env, void *at)
 {
     task *k = at;
     (void)env;
-    for (int i = 0; i < SLICES && goes_on(k); i++)
-        k->s = k->call ? wasmloop_call_run_for(&k->of->handle, SLICE, &k->over, &k->e) : wasmloop_job_run_for(&k->of->handle, SLICE, &k->over);
+    for (int i = 0; i < SLICES && goes_on(k); i++) k->s = slice(k);
 }
 
-static napi_value about_of(napi_env env, thing *module, thing *t, uint32_t over)
+static napi_value about_of(napi_env env, thing *t, uint32_t over)
 {
     napi_value o; wasmloop_about a; const uint8_t *at; uint64_t n;
     wasmloop_job_about(&t->handle, &a);
@@ -216,7 +212,7 @@ static napi_value about_of(napi_env env, thing *module, thing *t, uint32_t over)
     set(env, o, "value", number(env, (double)(int32_t)a.value));
     set(env, o, "used", big(env, a.used));
     if (wasmloop_job_view(&t->handle, &at, &n) == WASMLOOP_OK) set(env, o, "reply", buffer(env, at, n));
-    else set(env, o, "where", told(env, module, &t->handle));
+    else set(env, o, "where", told(env, &t->handle));
     return o;
 }
 
@@ -239,30 +235,32 @@ static void complete(napi_env env, napi_status s, void *at)
         if (queue(env, k)) return;
         k->s = WASMLOOP_MEMORY;
     }
+    if (k->begun && !k->over) wasmloop_call_end(&k->of->handle, &k->e);         /* the instance lives on, with its state */
     atomic_store(&k->of->busy, 0);
-    if (k->s == WASMLOOP_OK) napi_resolve_deferred(env, k->done, k->call ? ended_of(env, k->module, k->of, &k->e, k->over) : about_of(env, k->module, k->of, k->over));
+    if (k->s == WASMLOOP_OK) napi_resolve_deferred(env, k->done, k->call ? ended_of(env, k->of, &k->e, k->over) : about_of(env, k->of, k->over));
     else {
         napi_create_string_utf8(env, wasmloop_status_name(k->s), NAPI_AUTO_LENGTH, &code);
         napi_create_string_utf8(env, "wasmloop", NAPI_AUTO_LENGTH, &text);
         napi_create_error(env, code, text, &error);
         napi_reject_deferred(env, k->done, error);
     }
-    for (int i = 0; i < 2; i++) napi_delete_reference(env, k->refs[i]);
+    napi_delete_reference(env, k->ref);
     if (k->work) napi_delete_async_work(env, k->work);
     free(k);
 }
 
-/* pool(module, job or instance, whether it is a call): a promise */
+/* pool(job), pool(instance, the number of an export, its arguments): a promise */
 static napi_value pool(napi_env env, napi_callback_info info)
 {
     ARGS(3);
-    thing *m = get(env, v[0]), *t = m ? get(env, v[1]) : NULL; napi_value promise; task *k;
+    thing *t = get(env, v[0]); napi_value promise; task *k;
     if (!t) return NULL;
     if (!(k = calloc(1, sizeof *k))) return fail(env, "MEMORY", "out of memory");
-    k->module = m; k->of = t; k->call = (int)u32(env, v[2]);
+    k->of = t; k->call = t->words != NULL;
+    if (k->call) { k->at = u32(env, v[1]); k->n = args_of(env, v[2], k->args); }
     atomic_store(&t->busy, 1);
     atomic_store(&t->stop, 0);
-    for (int i = 0; i < 2; i++) napi_create_reference(env, v[i], 1, &k->refs[i]);      /* neither is collected meanwhile */
+    napi_create_reference(env, v[0], 1, &k->ref);               /* it is not collected meanwhile */
     napi_create_promise(env, &k->done, &promise);
     if (!queue(env, k)) { k->s = WASMLOOP_MEMORY; complete(env, napi_cancelled, k); }
     return promise;
@@ -322,14 +320,14 @@ static napi_value loop(napi_env env, napi_callback_info info)
     return status(env, s, NULL);
 }
 
-/* turn_for(module, loop, now in ms, units): what happened, with the values emitted */
+/* turnFor(loop, now in ms, units): what happened, with the values emitted */
 static napi_value turn_for(napi_env env, napi_callback_info info)
 {
-    ARGS(4);
-    thing *m = get(env, v[0]), *t = m ? get(env, v[1]) : NULL; uint32_t over = 0, n = 0; uint64_t now; int64_t emits[64]; napi_value o, a, x; int s;
+    ARGS(3);
+    thing *t = get(env, v[0]); uint32_t over = 0, n = 0; uint64_t now; int64_t emits[64]; napi_value o, a, x; int s;
     if (!t) return NULL;
-    wasmloop_clock(&t->handle, u64(env, v[2]), &now);           /* KIND while a callback is paused: the clock then waits */
-    s = wasmloop_turn_for(&t->handle, UINT32_MAX, u64(env, v[3]), &over, &t->told);
+    wasmloop_clock(&t->handle, u64(env, v[1]), &now);           /* KIND while a callback is paused: the clock then waits */
+    s = wasmloop_turn_for(&t->handle, UINT32_MAX, u64(env, v[2]), &over, &t->told);
     if (s != WASMLOOP_OK) return status(env, s, NULL);
     napi_create_object(env, &o);
     set(env, o, "over", number(env, over));
@@ -337,7 +335,7 @@ static napi_value turn_for(napi_env env, napi_callback_info info)
     set(env, o, "ending", number(env, t->told.did.ending));
     set(env, o, "wait", number(env, over ? t->told.wait == WASMLOOP_FOREVER ? -1 : (double)t->told.wait : 0));
     set(env, o, "used", big(env, t->told.did.used));
-    if (over && (t->told.did.what == WASMLOOP_FAILED || t->told.did.ending)) set(env, o, "where", told(env, m, &t->handle));
+    if (over && (t->told.did.what == WASMLOOP_FAILED || t->told.did.ending)) set(env, o, "where", told(env, &t->handle));
     if (over && t->told.did.what == WASMLOOP_RAN && t->told.did.emits && wasmloop_emits(&t->handle, emits, 64, &n) == WASMLOOP_OK) {
         napi_create_array(env, &a);
         for (uint32_t i = 0; i < n; i++) { napi_create_bigint_int64(env, emits[i], &x); napi_set_element(env, a, i, x); }
@@ -382,7 +380,7 @@ static napi_value request(napi_env env, napi_callback_info info)
 
 static napi_value init(napi_env env, napi_value exports)
 {
-    static const struct { const char *name; napi_callback f; } all[] = { { "load", load }, { "type", type_of }, { "instance", instance }, { "callAt", call_at }, { "words", words }, { "last", last }, { "begin", begin },
+    static const struct { const char *name; napi_callback f; } all[] = { { "load", load }, { "type", type_of }, { "instance", instance }, { "callAt", call_at }, { "words", words }, { "last", last },
         { "pool", pool }, { "stop", stop }, { "quit", quit }, { "job", job }, { "read", read_memory }, { "write", write_memory }, { "loop", loop }, { "turnFor", turn_for }, { "nextJob", next_job },
         { "accept", accept_job }, { "send", async_send }, { "request", request }, { "cancel", cancel } };
     for (size_t i = 0; i < sizeof all / sizeof *all; i++) {

@@ -36,7 +36,7 @@ export class Instance {
   readonly depth: number;
   /** Calls an exported function in this thread: undefined without a result, an array with more than one. */
   call(name: string, ...args: Value[]): Value | Value[] | undefined;
-  /** The same on the thread pool. An abort closes the instance. */
+  /** The same on the thread pool. An abort ends the call; the instance keeps its state. */
   callAsync(name: string, args?: Value[], options?: Aborts): Promise<Value | Value[] | undefined>;
   read(at: number, length: number): Buffer;
   write(at: number, bytes: Uint8Array): void;

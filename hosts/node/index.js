@@ -11,12 +11,12 @@ class Stopped extends Error {
   constructor(why, told) { super(`${why}${told.where ? ', ' + told.where : ''}`); this.name = 'Stopped'; this.ending = why; this.where = told.where; this.used = told.used; }
 }
 
-async function pooled(module, it, call, signal) {          // runs on libuv's pool, in slices; an AbortSignal ends it between two
+async function pooled(signal, it, ...call) {               // runs on libuv's pool, in slices; an AbortSignal ends it between two
   if (signal?.aborted) throw signal.reason;
   const abort = () => native.stop(it);
   signal?.addEventListener('abort', abort, { once: true });
   try {
-    const told = await native.pool(module, it, call);
+    const told = await native.pool(it, ...call);
     if (!told.over) throw signal.reason;
     return told;
   } finally { signal?.removeEventListener('abort', abort); }
@@ -30,7 +30,7 @@ class Module {
   instance(limits) { return new Instance(this, limits); }
   loop(options) { return new Loop(this, options); }
   async work(operation, bytes = new Uint8Array(0), { fuel = 1e6, depth = 64, signal } = {}) {
-    const told = await pooled(this.#handle, native.job(this.#handle, operation, bytes, fuel, depth), 0, signal);
+    const told = await pooled(signal, native.job(this.#handle, operation, bytes, fuel, depth));
     if (told.outcome !== 1) throw new Stopped(OUTCOMES[told.outcome], told);
     return { value: told.value, bytes: told.reply, used: told.used };
   }
@@ -38,9 +38,7 @@ class Module {
 
 class Instance {
   #module; #handle; #words; #types = new Map();
-  #closed = false;
   constructor(module, { fuel = 1e6, depth = 64 } = {}) { this.#module = module; this.#handle = native.instance(module.handle, fuel, depth); this.#words = native.words(this.#handle); this.fuel = fuel; this.depth = depth; }
-  #open() { if (this.#closed) throw new Error('the instance stands in a call that was aborted: make another'); }
   #of(name, args) {
     const type = this.#type(name);
     if (args.length !== type.params.length) throw new TypeError(`${name} takes ${type.params.length} arguments`);
@@ -58,22 +56,17 @@ class Instance {
     return type;
   }
   call(name, ...args) {                                    // no object is made on the way
-    this.#open();
     const type = this.#type(name), n = args.length;
     if (n !== type.params.length) throw new TypeError(`${name} takes ${type.params.length} arguments`);
     for (let i = 0; i < n; i++) this.#words[i] = type.params[i] === 32 ? BigInt(args[i] >>> 0) : BigInt(args[i]);
-    if (native.callAt(this.#handle, type.at, n)) return this.#result(type, native.last(this.#module.handle, this.#handle));
+    if (native.callAt(this.#handle, type.at, n)) return this.#result(type, native.last(this.#handle));
     if (type.results.length === 0) return undefined;
-    if (type.results.length > 1) return this.#result(type, native.last(this.#module.handle, this.#handle));
+    if (type.results.length > 1) return this.#result(type, native.last(this.#handle));
     return type.results[0] === 32 ? Number(BigInt.asIntN(32, this.#words[256])) : BigInt.asIntN(64, this.#words[256]);
   }
-  async callAsync(name, args = [], { signal } = {}) {      // an abort closes the instance, which stands in the call then
-    this.#open();
-    signal?.throwIfAborted();
+  async callAsync(name, args = [], { signal } = {}) {      // an abort ends the call; the instance keeps its state
     const [type, list] = this.#of(name, args);
-    native.begin(this.#handle, name, list, this.fuel, this.depth);
-    const told = await pooled(this.#module.handle, this.#handle, 1, signal).catch((error) => { this.#closed = true; throw error; });
-    return this.#result(type, told);
+    return this.#result(type, await pooled(signal, this.#handle, type.at, list));
   }
   read(at, length) { return native.read(this.#handle, at, length); }
   write(at, bytes) { native.write(this.#handle, at, bytes); }
@@ -126,9 +119,9 @@ class Loop {                                               // lives on node's ow
   }
   async #run({ job, request }) {
     this.#jobs.set(request, job);
-    const told = await native.pool(this.#module.handle, job, 0);
+    const told = await native.pool(job);
     this.#jobs.delete(request);
-    if (told.over) this.#later(() => native.accept(this.#handle, job));
+    this.#later(() => { if (told.over) native.accept(this.#handle, job); });      // also one that was stopped: others may wait for its place
   }
   #turn() {
     this.#now = false;
@@ -136,7 +129,7 @@ class Loop {                                               // lives on node's ow
   }
   #step() {
     if (!this.#running) for (const { act } of this.#pending.splice(0)) act();
-    const told = native.turnFor(this.#module.handle, this.#handle, Math.floor(performance.now() - this.#start), this.units);
+    const told = native.turnFor(this.#handle, Math.floor(performance.now() - this.#start), this.units);
     this.#running = !told.over;
     if (!told.over) return this.#soon();
     if (told.emits) this.onEmit(told.emits);

@@ -52,8 +52,10 @@ const tests = {
     const running = it.callAsync('spin', [1], { signal: AbortSignal.timeout(20) });
     assert.throws(() => it.call('score', 1), { code: 'BUSY' });
     await assert.rejects(running, { name: 'TimeoutError' });
-    assert.throws(() => it.call('score', 1), /aborted/);
-    await assert.rejects(it.callAsync('score', [1]), /aborted/);
+    assert.equal(it.call('score', 5), 162n);
+    assert.equal(await it.callAsync('running', [3]), 3n);
+    for (const name of ['spin', 'grow', 'copies']) await within(1000, () => assert.rejects(it.callAsync(name, [1], { signal: AbortSignal.timeout(20) }), { name: 'TimeoutError' }));
+    assert.equal(it.call('running', 4n), 7n);              // the instance and its state live on
   },
   'timers beside long requests': async () => {
     let ticks = 0;
@@ -119,6 +121,21 @@ const tests = {
     failing.send(1);
     await assert.rejects(failing.done, (e) => e instanceof Stopped && e.ending === 'trap' && e.where.includes('in function'));
     await assert.rejects(failing.cancel(1), /ended/);
+  },
+  'a request behind work that is cancelled, and still waits for the pool': async () => {
+    const ends = Array.from({ length: 200 }, () => new AbortController()), others = ends.map(({ signal }) => rules.work(1, undefined, { fuel: 1e15, signal })), got = [];
+    const loop = new Loop(new Module(read('hosts/guest/echo.wasm')), { workFuel: 1e15, onEmit: (v) => got.push(...v) });
+    const numbers = await Promise.all(Array.from({ length: 32 }, () => loop.request(1)));
+    while (loop.working < 32) await new Promise(setImmediate);
+    await Promise.all(numbers.map((number) => loop.cancel(number)));
+    while (got.length < 32) await new Promise(setImmediate);       // they are answered; their work waits behind the others'
+    const number = await loop.request(0, text('abc'));
+    for (const end of ends) end.abort(new Error('enough'));
+    await Promise.allSettled(others);
+    for (const began = Date.now(); got.length < 33 && Date.now() - began < 5000;) await new Promise((resolve) => setTimeout(resolve, 1));
+    assert(got.includes((BigInt(number) << 32n) + 3n), `${got.length} answers`);
+    loop.close();
+    await assert.rejects(loop.done, /closed/);
   },
   'a loop that an AbortSignal ends': async () => {
     const echo = new Module(read('hosts/guest/echo.wasm'));

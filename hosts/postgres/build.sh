@@ -4,9 +4,10 @@ set -eu
 cd "$(dirname "$0")"
 top=$(cd ../.. && pwd)
 mkdir -p out/lib
-cp wasmloop_pg.c wasmloop.control wasmloop--0.1.sql Makefile out
+cp wasmloop_pg.c modules.c wasmloop_pg.h wasmloop.control wasmloop--0.1.sql Makefile out
 cp ../host.h out
-sed -i 's|"../host.h"|"host.h"|' out/wasmloop_pg.c
+sed -i 's|"../host.h"|"host.h"|' out/wasmloop_pg.h
 cp -r "$top/capi/include" out
-cp "${WASMLOOP_FOLDER:-$top/dist}/libwasmloop.a" out/lib
+objcopy --redefine-sym malloc=wasmloop_pg_malloc --redefine-sym realloc=wasmloop_pg_realloc --redefine-sym free=wasmloop_pg_free \
+    "${WASMLOOP_FOLDER:-$top/dist}/libwasmloop.a" out/lib/libwasmloop.a
 make -s -C out with_llvm=no COPT=-Werror

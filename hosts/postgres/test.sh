@@ -82,13 +82,20 @@ want "$(U=tenant sql -c "$(f 'heavy2(bigint) RETURNS bigint' "heavy$hex") $(f 't
 want "$(U=tenant sql -c "$(f 'slug(bytea) RETURNS bytea' "$hex")" -c "SELECT slug('\\x4162'::bytea)")" "\\x6162|" "its export has the function's name"
 want "$(script "$(f 'g(bigint) RETURNS bigint' 'score\x0061736d01000000ff')" "$(f 'g(bigint) RETURNS bigint' 'score\x0061736d0')" "$(f 'g(bigint) RETURNS bigint' "$hex")")" "ERROR:  22P03|ERROR:  22023|ERROR:  42883|" "a module in a function that is rejected, no bytes, no export"
 want "$(sql -c "CREATE FUNCTION g(bigint) RETURNS bigint LANGUAGE wasmloop AS 'score$hex'; SELECT g(5)" -c "CREATE OR REPLACE FUNCTION g(bigint) RETURNS bigint LANGUAGE wasmloop AS 'heavy$hex'" -c "SELECT g(5) = heavy(5)" -c "DROP FUNCTION g")" "162|t|" "one that is replaced"
-# interrupts: with more fuel a call runs in slices
+# interrupts, between slices
 long="SET wasmloop.fuel = 2000000000;"
 for each in spin grow copies; do
     within 10000 "statement_timeout of 200 ms ($each)" script "$long" "SET statement_timeout = 200;" "SELECT $each(1);"
     want "$said" "ERROR:  57014|" "statement_timeout, $each"
 done
+python3 "$top/hosts/postgres/clock.py" "$room/s" > "$room/clock" 2>&1
+want "$? $(grep -v ' ok$' "$room/clock")" "0 " "timeouts and cancels hold within 10 ms, by the clock"
 want "$(sql -c "$long" -c "SET statement_timeout = 100" -c "DO \$\$ DECLARE v bigint; BEGIN FOR i IN 1 .. 2 LOOP BEGIN v := CASE i WHEN 1 THEN spin(i) ELSE running(i) END; EXCEPTION WHEN query_canceled THEN NULL; END; END LOOP; END \$\$" -c "SELECT score(5)")" "162|" "calls after a cancelled one, in its session"
+# the hash function of an index lives as long as the session: a call that is cancelled leaves it its state
+sql -c "$(f 'hashed(bigint) RETURNS integer' rules.hashed 'IMMUTABLE STRICT') CREATE OPERATOR CLASS own FOR TYPE bigint USING hash AS OPERATOR 1 =, FUNCTION 1 hashed(bigint)" \
+    -c "CREATE TABLE o (x bigint); CREATE INDEX ON o USING hash (x own); INSERT INTO o VALUES (1), (2), (99)"
+want "$(script "$long" 'INSERT INTO o VALUES (99);' 'SET statement_timeout = 50;' 'INSERT INTO o VALUES (13);' 'INSERT INTO o VALUES (5);' 'INSERT INTO o VALUES (99);')$(sql -c 'INSERT INTO o VALUES (99)' -c 'SELECT count(*) FROM o')" \
+    "ERROR:  57014|ERROR:  38000|6|" "an instance that lives on has the state of its cancelled call"
 until_true "SELECT pg_cancel_backend(pid) FROM pg_stat_activity WHERE query LIKE '%spin(77)%' AND pid <> pg_backend_pid()" &
 within 20000 "pg_cancel_backend" script "$long" "SELECT spin(77);"
 want "$said" "ERROR:  57014|" "pg_cancel_backend"
@@ -106,7 +113,7 @@ wait $!
 want "$(sql -c "SELECT score(5)" -c "UPDATE wasmloop.module SET code = code" -c "SELECT score(6)" -c "BEGIN; DELETE FROM wasmloop.module" -c "DO \$\$ BEGIN PERFORM score(5); EXCEPTION WHEN undefined_object THEN NULL; END \$\$" -c "ROLLBACK; SELECT score(7)")" "162|193|224|" "a module that changes, and one that is gone"
 want "$(script 'BEGIN; TRUNCATE wasmloop.module;' "INSERT INTO wasmloop.module VALUES ('rules', pg_read_binary_file('$room/rules.wasm'));" 'SELECT score(5);' 'TRUNCATE wasmloop.module;' \
     "INSERT INTO wasmloop.module VALUES ('rules', pg_read_binary_file('$room/echo.wasm'));" 'SELECT score(5);' 'ROLLBACK;' 'SELECT score(8);')" "162|ERROR:  42883|255|" "two modules in one place of the table, in one transaction"
-want "$(script 'SET wasmloop.instances = 2;' 'SELECT running(1) + running(2) + running(3);' 'SELECT running(1) + running(2);')" "ERROR:  53400|3|" "call sites are limited"
+want "$(script 'SELECT wasmloop.memory();' "SET wasmloop.memory = '12MB';" 'SELECT running(1) + running(2) + running(3);' 'SELECT running(1) + running(2);' 'SELECT wasmloop.memory() BETWEEN 1 AND 100000;' "SET wasmloop.memory = 0;" 'SELECT score(1);')" "0|ERROR:  53200|3|t|ERROR:  53200|" "memory is counted, and limited"
 sql -c "CREATE TABLE t AS SELECT x::bigint AS x, 'Article ' || x AS s FROM generate_series(1, 50000) x" -c "ANALYZE t"
 like "$(sql -c "SET parallel_setup_cost = 0" -c "SET parallel_tuple_cost = 0" -c "SET min_parallel_table_scan_size = 0" -c "EXPLAIN (ANALYZE, COSTS off) SELECT sum(score(x)) FROM t")" "*Workers Launched: [1-9]*" "parallel workers"
 # dump and restore, with an index over a function; an upgrade keeps the rows

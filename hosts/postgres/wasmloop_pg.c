@@ -6,12 +6,9 @@
  *     CREATE FUNCTION slug(text) RETURNS text LANGUAGE wasmloop IMMUTABLE STRICT AS 'rules.slug';                 -- f(text, size, into, room)
  *
  * No call of the library raises an error or is left by one: errors are raised between calls, and callbacks of memory contexts drop what the library
- * holds. A guest cannot run SQL, so a call site is never entered twice. */
-#include "postgres.h"
-#include "access/genam.h"
+ * holds. A guest cannot run SQL, so a call site is never entered twice. modules.c has the modules, and counts memory. */
+#include "wasmloop_pg.h"
 #include "access/htup_details.h"
-#include "access/table.h"
-#include "catalog/namespace.h"
 #include "catalog/pg_proc.h"
 #include "catalog/pg_type.h"
 #include "commands/trigger.h"
@@ -21,46 +18,21 @@
 #include "mb/pg_wchar.h"
 #include "miscadmin.h"
 #include "utils/builtins.h"
-#include "utils/fmgroids.h"
 #include "utils/guc.h"
-#include "utils/lsyscache.h"
 #include "utils/memutils.h"
-#include "utils/rel.h"
 #include "utils/syscache.h"
-#include "../host.h"
 
 PG_MODULE_MAGIC;
 
-#define FAIL_AND(state, more, ...) ereport(ERROR, errcode(ERRCODE_##state), more, errmsg("wasmloop: " __VA_ARGS__))
-#define FAIL(state, ...) ereport(ERROR, errcode(ERRCODE_##state), errmsg("wasmloop: " __VA_ARGS__))
-#define SLICE 100000
 #define ROOM 1024                   /* bytes of a result beyond those of the argument */
 #define ROWS 32768                  /* the same of a set */
-#define SPARE 32                    /* modules that a session keeps though no call site has them */
-static int fuel = 1000000, depth = 64, most_instances = 256, instances;
-
-/* A version of a row. Two rows of one transaction may stand in one place, so the command tells them apart. */
-typedef struct version { TransactionId xmin; CommandId command; ItemPointerData at; } version;
-
-/* A loaded module: a version of a row of wasmloop.module, or of a function. It lives in a context of its own until it is replaced and no call site has it. */
-typedef struct kept {
-    struct kept *next;
-    MemoryContext context;
-    MemoryContextCallback end;
-    wasmloop_handle module;
-    version version;
-    Oid function;                   /* InvalidOid: a row of wasmloop.module */
-    char *name, *bytes;
-    size_t length;
-    int uses;                       /* call sites, and one for the list */
-} kept;
-static kept *all;
+static int fuel = 1000000, depth = 64;
 
 /* What a call site keeps, in fn_mcxt; a callback of that context drops the handles. */
 typedef struct site {
     MemoryContextCallback end;
     wasmloop_handle instance;
-    bool open, running, ready, nulls, set;
+    bool open, ready, nulls, set;
     kept *module;
     char *name;
     uint64_t number, room, fuel;    /* the fuel of a call, or what a set has left */
@@ -70,121 +42,16 @@ typedef struct site {
 } site;
 
 /* A call: its arguments, and where the bytes of its result go. */
-typedef struct call { uint64_t args[24]; int n; uint32_t at, room; } call;
-
-static void unuse(kept *k)
-{
-    if (--k->uses == 0) MemoryContextDelete(k->context);
-}
-
-static void kept_end(void *at)
-{
-    wasmloop_drop(&((kept *)at)->module);       /* EMPTY if there is none */
-}
-
-static void close_instance(site *s)
-{
-    if (!s->open) return;
-    wasmloop_drop(&s->instance);
-    s->open = s->running = false;
-    instances--;
-}
+typedef struct call { int n; uint32_t at, room; uint64_t args[24]; } call;
 
 static void site_end(void *at)
 {
     site *s = at;
-    close_instance(s);
-    if (s->module) unuse(s->module);
+    wasmloop_drop(&s->instance);                /* EMPTY if there is none */
+    s->open = false;
+    if (s->module) wasmloop_pg_unuse(s->module);
     s->module = NULL;
 }
-
-static void must(int status, const char *what)
-{
-    if (status == WASMLOOP_MEMORY) ereport(ERROR, errcode(ERRCODE_OUT_OF_MEMORY), errmsg("out of memory"), errdetail("In function %s.", what));
-    if (status != WASMLOOP_OK) FAIL(EXTERNAL_ROUTINE_EXCEPTION, "%s: %s", what, wasmloop_status_name(status));
-}
-
-/* ---- Modules ---- */
-
-static void load_bytes(const char *bytes, size_t length, wasmloop_handle *module, const char *name)
-{
-    char why[300];
-    int status = host_load(bytes, length, module, why, sizeof why);
-    if (status == WASMLOOP_REFUSED) FAIL_AND(INVALID_BINARY_REPRESENTATION, errdetail("%s", why), "the module %s is rejected", name);
-    must(status, name);
-}
-
-static version version_of(HeapTuple row)
-{
-    return (version){ HeapTupleHeaderGetRawXmin(row->t_data), HeapTupleHeaderGetRawCommandId(row->t_data), row->t_self };
-}
-
-/* The loaded module of this version. Another version leaves the list; call sites that run it keep it. */
-static kept *find(Oid function, const char *name, version *v)
-{
-    kept **link = &all, *k;
-    while (*link && ((*link)->function != function || strcmp((*link)->name, name))) link = &(*link)->next;
-    k = *link;
-    if (!k || (k->version.xmin == v->xmin && k->version.command == v->command && ItemPointerEquals(&k->version.at, &v->at))) return k;
-    *link = k->next;
-    unuse(k);
-    return NULL;
-}
-
-static kept *keep(Oid function, const char *name, version v, bytea *code)
-{
-    MemoryContext context = AllocSetContextCreate(CurrentMemoryContext, "wasmloop module", ALLOCSET_SMALL_SIZES);
-    kept *k = MemoryContextAlloc(context, sizeof *k);
-    int spare = 0;
-    *k = (kept){ .context = context, .end = { .func = kept_end, .arg = k }, .version = v, .function = function, .length = VARSIZE_ANY_EXHDR(code), .uses = 1 };
-    k->name = MemoryContextStrdup(context, name);
-    k->bytes = MemoryContextAlloc(context, k->length + 1);
-    memcpy(k->bytes, VARDATA_ANY(code), k->length);
-    MemoryContextRegisterResetCallback(context, &k->end);
-    load_bytes(k->bytes, k->length, &k->module, name);
-    MemoryContextSetParent(context, TopMemoryContext);      /* from here on nothing fails */
-    k->next = all;
-    all = k;
-    for (kept **link = &all; *link; ) {
-        kept *old = *link;
-        if (old->uses > 1 || ++spare <= SPARE) { link = &old->next; continue; }
-        *link = old->next;
-        unuse(old);
-    }
-    return k;
-}
-
-/* The module of a row of wasmloop.module. It is read as a catalog is: by its index, whatever the search_path and the rights of who calls, with no operator
- * that another could have made. */
-static kept *of_row(const char *name)
-{
-    Oid schema = get_namespace_oid("wasmloop", true), table = OidIsValid(schema) ? get_relname_relid("module", schema) : InvalidOid;
-    kept *k;
-    ScanKeyData key;
-    Relation relation;
-    SysScanDesc scan;
-    HeapTuple row;
-    version v;
-    if (!OidIsValid(table)) FAIL(UNDEFINED_TABLE, "there is no table wasmloop.module");
-    relation = table_open(table, AccessShareLock);
-    ScanKeyInit(&key, 1, BTEqualStrategyNumber, F_TEXTEQ, CStringGetTextDatum(name));
-    scan = systable_beginscan(relation, RelationGetPrimaryKeyIndex(relation), OidIsValid(RelationGetPrimaryKeyIndex(relation)), NULL, 1, &key);
-    row = systable_getnext(scan);
-    if (!HeapTupleIsValid(row)) FAIL_AND(UNDEFINED_OBJECT, errhint("INSERT INTO wasmloop.module."), "there is no module \"%s\"", name);
-    v = version_of(row);
-    k = find(InvalidOid, name, &v);
-    if (!k) {
-        bool null;
-        Datum code = heap_getattr(row, 2, RelationGetDescr(relation), &null);
-        if (null) FAIL(NULL_VALUE_NOT_ALLOWED, "the module \"%s\" is NULL", name);
-        k = keep(InvalidOid, name, v, DatumGetByteaPP(code));
-    }
-    systable_endscan(scan);
-    table_close(relation, AccessShareLock);
-    return k;
-}
-
-/* ---- Call sites ---- */
 
 static bool is_bytes(Oid t) { return t == TEXTOID || t == BYTEAOID; }
 static uint8_t word_of(Oid t) { return t == INT8OID ? 2 : t == BOOLOID || t == INT2OID || t == INT4OID ? 1 : 0; }
@@ -222,19 +89,18 @@ static void fit(site *s)
 
 /* The module and the export that a function's text names: 'module.export', or '[export]\x..', the bytes of a module. Without an export's name it is the
  * function's. */
-static kept *named(Form_pg_proc proc, version v, char *source, char **export)
+static kept *named(HeapTuple function, char *source, char **export)
 {
+    Form_pg_proc proc = (Form_pg_proc)GETSTRUCT(function);
     char *bytes = strstr(source, "\\x0061736d"), *dot = strrchr(source, '.');
-    kept *k;
-    if (!bytes) {
-        if (!dot) FAIL(SYNTAX_ERROR, "expected 'module.export' or a module's bytes, found '%.100s'", source);
-        *dot = 0;
-        *export = dot + 1;
-        return of_row(source);
+    if (bytes) {
+        *export = bytes == source ? pstrdup(NameStr(proc->proname)) : pnstrdup(source, bytes - source);
+        return wasmloop_pg_of_function(function, proc->oid, bytes);
     }
-    *export = bytes == source ? pstrdup(NameStr(proc->proname)) : pnstrdup(source, bytes - source);
-    k = find(proc->oid, "", &v);
-    return k ? k : keep(proc->oid, "", v, DatumGetByteaPP(DirectFunctionCall1(byteain, CStringGetDatum(bytes))));
+    if (!dot) FAIL(SYNTAX_ERROR, "expected 'module.export' or a module's bytes, found '%.100s'", source);
+    *dot = 0;
+    *export = dot + 1;
+    return wasmloop_pg_of_row(source);
 }
 
 /* Fills a site from pg_proc. Behind the names stands ' nulls' if the export is told of NULL arguments. */
@@ -255,7 +121,7 @@ static void resolve(site *s, Oid function, MemoryContext context)
     for (int i = 0; i < s->count; i++) s->arg[i] = proc->proargtypes.values[i];
     s->nulls = word && !strcmp(word, " nulls");
     if (s->nulls) *word = 0;
-    s->module = named(proc, version_of(tuple), source, &s->name);
+    s->module = named(tuple, source, &s->name);
     ReleaseSysCache(tuple);
     s->module->uses++;
     s->name = MemoryContextStrdup(context, s->name);
@@ -290,46 +156,51 @@ static int state_of(const wasmloop_ended *e)
     return e->trap == 2 ? ERRCODE_DIVISION_BY_ZERO : e->trap == 3 ? ERRCODE_NUMERIC_VALUE_OUT_OF_RANGE : ERRCODE_EXTERNAL_ROUTINE_EXCEPTION;
 }
 
-/* Runs an export. With little fuel it is over within milliseconds, and made at once; with more it runs in slices, and ends between two if the statement
- * does: by a longjmp out of CHECK_FOR_INTERRUPTS, which leaves the instance in the call. The next call of the site makes a new one. */
+static void stopped(site *s, const char *name, const wasmloop_ended *ended)
+{
+    char why[700];
+    host_ended(&s->instance, ended, why, sizeof why);
+    ereport(ERROR, errcode(state_of(ended)), errmsg("wasmloop: %s: %.*s", name, (int)strcspn(why, ","), why), errdetail("%s", why));
+}
+
+/* Between two slices: what ends the statement leaves by a longjmp. The call is over then, and a site that lives on keeps its state. */
+static int look(void *instance)
+{
+    wasmloop_ended ended;
+    if (!INTERRUPTS_PENDING_CONDITION()) return 0;
+    PG_TRY();
+    {
+        CHECK_FOR_INTERRUPTS();
+    }
+    PG_CATCH();
+    {
+        wasmloop_call_end(instance, &ended);
+        PG_RE_THROW();
+    }
+    PG_END_TRY();
+    return 0;
+}
+
 static void run(site *s, const char *name, uint64_t number, const uint64_t *args, int n, wasmloop_ended *ended)
 {
     wasmloop_call_limits limits = { s->fuel, depth, 0 };
-    char place[700];
-    uint32_t over = 0;
-    if (s->fuel <= HOST_AT_ONCE)
-        must(wasmloop_call_at(&s->instance, number, args, n, &limits, ended), name);
-    else {
-        must(wasmloop_call_begin(&s->instance, name, args, n, &limits), name);
-        s->running = true;
-        for (;;) {
-            must(wasmloop_call_run_for(&s->instance, SLICE, &over, ended), name);
-            if (over) break;
-            CHECK_FOR_INTERRUPTS();
-        }
-        s->running = false;
-    }
+    uint32_t over;
+    int status = host_call(&s->instance, number, args, n, &limits, look, &s->instance, &over, ended);
+    if (status != WASMLOOP_OK) wasmloop_pg_must(status, name);
     CHECK_FOR_INTERRUPTS();
-    if (ended->ending == WASMLOOP_RETURN) return;
-    host_ended(s->module->bytes, s->module->length, &s->instance, ended, place, sizeof place);
-    ereport(ERROR, errcode(state_of(ended)), errmsg("wasmloop: %s: %s", name, host_why(ended->ending, ended->trap)), errdetail("%s", place));
+    if (ended->ending != WASMLOOP_RETURN) stopped(s, name, ended);
 }
 
 static void open_instance(site *s)
 {
-    wasmloop_call_limits limits = { Min(fuel, HOST_AT_ONCE), depth, 0 };        /* of the start function, which runs at once */
     wasmloop_ended ended;
     int status;
-    if (s->running) close_instance(s);
     s->fuel = fuel;
     if (s->open) return;
-    if (instances >= most_instances)
-        FAIL_AND(CONFIGURATION_LIMIT_EXCEEDED, errhint("wasmloop.instances"), "a session has at most %d call sites at a time", most_instances);
-    status = wasmloop_instance(&s->module->module, &limits, &s->instance, &ended);
-    if (status == WASMLOOP_NOT_STARTED) ereport(ERROR, errcode(state_of(&ended)), errmsg("wasmloop: the start function: %s", host_why(ended.ending, ended.trap)));
-    must(status, s->name);
+    status = host_instance(&s->module->module, (wasmloop_call_limits){ fuel, depth, 0 }, &s->instance, &ended);
+    if (status == WASMLOOP_NOT_STARTED) stopped(s, "the start function", &ended);
+    wasmloop_pg_must(status, s->name);
     s->open = true;
-    instances++;
 }
 
 /* Where the guest has room for so many bytes. */
@@ -357,12 +228,15 @@ static void pass_bytes(site *s, call *c, bytea *bytes)
 /* The arguments of a call. */
 static void pass(site *s, FunctionCallInfo fcinfo, call *c)
 {
-    *c = (call){ .n = s->nulls, .room = s->set ? ROWS : ROOM };
+    c->n = s->nulls;
+    c->room = s->set ? ROWS : ROOM;
+    c->at = 0;
+    c->args[0] = 0;
     for (int i = 0; i < s->count; i++) {
         Datum d = PG_GETARG_DATUM(i);
         if (PG_ARGISNULL(i)) {
             c->args[0] |= 1 << i;
-            c->n += is_bytes(s->arg[i]) ? 2 : 1;
+            for (int k = is_bytes(s->arg[i]) ? 2 : 1; k; k--) c->args[c->n++] = 0;
         } else switch (s->arg[i]) {
         case BOOLOID: c->args[c->n++] = DatumGetBool(d); break;
         case INT2OID: c->args[c->n++] = (uint32_t)(int32_t)DatumGetInt16(d); break;
@@ -375,7 +249,7 @@ static void pass(site *s, FunctionCallInfo fcinfo, call *c)
     if (!c->at) c->at = room_for(s, c->room);
     c->args[c->n++] = c->at;
     c->args[c->n++] = c->room;
-    c->n += s->set;
+    if (s->set) c->args[c->n++] = 0;
 }
 
 /* Runs a call that writes its result, and reads that into a block of the room's size behind a header: how many bytes; -1 for NULL. */
@@ -493,21 +367,11 @@ Datum wasmloop_validator(PG_FUNCTION_ARGS)
     PG_RETURN_VOID();
 }
 
-PG_FUNCTION_INFO_V1(wasmloop_is_module);
-Datum wasmloop_is_module(PG_FUNCTION_ARGS)
-{
-    wasmloop_handle module = WASMLOOP_HANDLE_INIT;
-    bytea *bytes = PG_GETARG_BYTEA_PP(0);
-    load_bytes(VARDATA_ANY(bytes), VARSIZE_ANY_EXHDR(bytes), &module, "of this row");
-    wasmloop_drop(&module);
-    PG_RETURN_BOOL(true);
-}
-
 void _PG_init(void);
 void _PG_init(void)
 {
     DefineCustomIntVariable("wasmloop.fuel", "Units of fuel of a call.", NULL, &fuel, 1000000, 1, INT_MAX, PGC_SUSET, 0, NULL, NULL, NULL);
     DefineCustomIntVariable("wasmloop.depth", "Nested calls of a call.", NULL, &depth, 64, 1, 128, PGC_SUSET, 0, NULL, NULL, NULL);
-    DefineCustomIntVariable("wasmloop.instances", "Call sites of a session at a time, each with a memory of up to 4 MiB.", NULL, &most_instances, 256, 1, 65536, PGC_SUSET, 0, NULL, NULL, NULL);
+    DefineCustomIntVariable("wasmloop.memory", "Memory of the modules and guests of a session.", NULL, &wasmloop_pg_most_memory, 1 << 20, 0, INT_MAX, PGC_SUSET, GUC_UNIT_KB, NULL, NULL, NULL);
     MarkGUCPrefixReserved("wasmloop");
 }

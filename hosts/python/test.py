@@ -3,7 +3,7 @@ import asyncio
 import sys
 import time
 
-from wasmloop import Error, Module
+from wasmloop import Error, Late, Module, Stopped
 from wasmloop.served import Closed, Failed, Served
 
 guests, examples = sys.argv[1:]
@@ -54,7 +54,7 @@ async def failing():
                 raise AssertionError
             raise AssertionError("it did not fail")
         except Failed as error:
-            assert "trap 1" in str(error) and "in function" in str(error), error
+            assert "unreachable, after 1 unit, in function 9 (on_fail), " in str(error), error
         try:
             await served.request(0)
             raise AssertionError
@@ -126,6 +126,24 @@ async def ended():
             assert [value async for value in served.emits()], name
 
 
+async def hostile():
+    rules = read(f"{guests}/rules.wasm")
+    for op, wanted in ((1, "spent"), (2, "trap"), (4, "spent"), (5, "spent"), (6, "depth")):
+        assert rules.work(op, b"x").outcome == wanted, op
+    for op in (1, 4, 5):
+        began = time.monotonic()
+        assert rules.work(op, b"x", 10**12, deadline=50).outcome == "late", op
+        assert time.monotonic() - began < 1
+    with rules.instance() as it:
+        assert it.call("running", 3) == 3
+        for name in ("spin", "grow", "copies", "deep"):
+            try:
+                raise AssertionError(it.call(name, 1, fuel=10**12, deadline=50))
+            except Stopped as error:
+                assert isinstance(error, Late) == (name != "deep"), error
+        assert it.call("running", 4) == 7               # the instance and its state live on
+
+
 async def many():
     async def one(k):
         async with Served(echo) as served:
@@ -137,7 +155,7 @@ async def many():
 
 
 passed = failed = 0
-for test in (sends_and_requests, wrong_words, failing, failing_beside_work, flood, waste, endless, cancelled, ended, many):
+for test in (sends_and_requests, wrong_words, failing, failing_beside_work, flood, waste, endless, cancelled, ended, hostile, many):
     try:
         asyncio.run(asyncio.wait_for(test(), 30))
         passed += 1

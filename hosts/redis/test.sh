@@ -38,21 +38,28 @@ want "$(cli a wl.call rules 0 'Hello, World 42')$(cli a wl.call rules 0 '')" "he
 cli a set page 'A Title' > /dev/null
 cli a lpush list x > /dev/null
 want "$(cli a wl.get rules 0 page)$(cli a wl.get rules 0 none)$(cli a wl.get rules 0 list | cut -c 1-9)" "a-title||WRONGTYPE" "get"
+cli a set other 'B' > /dev/null
+cli a setrange large 65000 x > /dev/null
+want "$(file=$top/examples/sha256.wasm load sha) $(redis-cli -s "$room/a" wl.mget sha 0 page none list other | od -An -tx1 -v | tr -d ' \n' | cut -c 1-64)" \
+    "OK $(printf '\7\0\0\0A Title\377\377\377\377\377\377\377\377\1\0\0\0B' | sha256sum | cut -c 1-64)" "several keys, by the digest of what the guest has"
+want "$(cli a wl.mget rules 0 large page)$(cli a wl.mget rules 0 large large)$(cli a wl.mget rules 0 | cut -c 1-3)" "x-a-title|ERR more than 65536 bytes||ERR" "several large keys, and no key"
+cli a wl.del sha > /dev/null
+want "$(cli a command getkeys wl.mget rules 0 page other)" "page|other|" "the keys are named to the server"
 want "$(printf '\n' | redis-cli -s "$room/a" -x wl.call rules 0 2>&1; cli a wl.call rules x y | cut -c 1-3; cli a wl.call none 0 y | cut -c 1-3; cli a wl.call rules 0 | cut -c 1-3; load r 0 | cut -c 1-3)" "$(printf '\nERR\nERR\nERR\nERR')" "wrong words"
 want "$(head -c 65537 /dev/zero | redis-cli -s "$room/a" -x wl.call rules 0)" "ERR more than 65536 bytes" "65,537 bytes"
 # hostile guests, pings beside them
 like "$(cli a wl.call rules 2 x)" "ERR an access outside the memory, after 22 units, in function 13 (uv_work)*" "a trap"
-like "$(cli a wl.call rules 6 x)" "ERR call stack exhausted, *" "deep"
+like "$(cli a wl.call rules 6 x)" "ERR call-depth limit exceeded, *" "deep"
 for op in 1 4 5; do
     within 2500 "a deadline of 500 ms, operation $op" cli a wl.call rules $op x
     like "$said" "ERR deadline, after * units, in function *" "a deadline, operation $op"
 done
 load few 1000000 > /dev/null
-like "$(cli a wl.call few 1 x)" "ERR out of fuel, after 1000000 units, *" "fuel"
+like "$(cli a wl.call few 1 x)" "ERR out of fuel, after 1,000,000 units, *" "fuel"
 load rules 100000000000 3000 > /dev/null
 for i in 1 2 3 4; do cli a wl.call rules 1 x > "$room/rest$i" & rest[i]=$!; done
 sleep 0.1
-within 1000 "a hundred pings beside four endless calls" redis-cli -s "$room/a" -r 100 ping
+within 2500 "a hundred pings beside four endless calls" redis-cli -s "$room/a" -r 100 ping
 want "$(echo "$said" | sort -u)" "PONG" "the pings"
 want "$(cli a wl.call rules 1 x) $(cli a wl.call rules 0 Short)" "ERR too many calls at a time|| short|" "at most four at a time"
 want "$(load rules 100000000000 500) $(cli a wl.call rules 0 Again)$(cli a wl.del few)$(cli a wl.del few)" "OK again|1|0|" "loaded again while it runs, and removed"

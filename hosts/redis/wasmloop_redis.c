@@ -3,6 +3,7 @@
  *     WL.LOAD name module [fuel [milliseconds]]     loads bytes of a module, or tells why not; the limits of a call
  *     WL.CALL name operation bytes                  uv_work on the bytes: its reply
  *     WL.GET  name operation key                    uv_work on the value of a key (as it is when the command arrives)
+ *     WL.MGET name operation key [key ..]           uv_work on the values of keys, each behind its length in 4 bytes, 2^32 - 1 for none
  *     WL.DEL  name                                  running calls keep it: 1, or 0 if there is none
  *     WL.LIST                                       name, bytes, fuel, milliseconds of each
  *
@@ -20,6 +21,7 @@
 
 #define SLICE 20000                 /* units */
 #define SLICES 5                    /* of an iteration of the server's loop, all calls together */
+#define MOST 65536                  /* bytes of input */
 
 typedef struct plugin { struct plugin *next; char *name; size_t name_length; wasmloop_handle module; uint8_t *bytes; size_t length; uint64_t fuel; long long ms; int uses; } plugin;
 typedef struct call { struct call *next, *before; plugin *plugin; wasmloop_handle job; RedisModuleBlockedClient *client; double until; int left; const char *late; } call;
@@ -122,7 +124,7 @@ static int reply(RedisModuleCtx *ctx, call *c)
     uint64_t n = 0;
     char text[900] = "ERR ";
     if (wasmloop_job_view(&c->job, &bytes, &n) == WASMLOOP_OK) return RM_ReplyWithStringBuffer(ctx, n ? (const char *)bytes : "", n);
-    host_job_ended(c->plugin->bytes, c->plugin->length, &c->job, c->late, text + 4, sizeof text - 4);
+    host_job_ended(&c->job, c->late, text + 4, sizeof text - 4);
     return RM_ReplyWithError(ctx, text);
 }
 
@@ -229,6 +231,31 @@ static int get_command(RedisModuleCtx *ctx, RedisModuleString **v, int count)
     return answer;
 }
 
+/* Appends a key's value, as MGET has it: none of a key of another type. 0 if there is no room. */
+static int append(RedisModuleCtx *ctx, RedisModuleString *name, uint8_t *bytes, size_t *at)
+{
+    RedisModuleKey *key = RM_OpenKey(ctx, name, REDISMODULE_READ);
+    size_t n = 0;
+    const char *value = key && RM_KeyType(key) == REDISMODULE_KEYTYPE_STRING ? RM_StringDMA(key, &n, REDISMODULE_READ) : NULL;
+    int fits = n <= MOST && *at + 4 + n <= MOST;
+    uint32_t head = value ? (uint32_t)n : UINT32_MAX;
+    for (int i = 0; fits && i < 4; i++) bytes[(*at)++] = (uint8_t)(head >> 8 * i);
+    if (fits && n) memcpy(bytes + *at, value, n);
+    if (fits) *at += n;
+    if (key) RM_CloseKey(key);
+    return fits;
+}
+
+static int mget_command(RedisModuleCtx *ctx, RedisModuleString **v, int count)
+{
+    static uint8_t bytes[MOST];                     /* of the server's one thread; the job has a copy */
+    size_t at = 0;
+    if (count < 4) return RM_WrongArity(ctx);
+    for (int i = 3; i < count; i++)
+        if (!append(ctx, v[i], bytes, &at)) return RM_ReplyWithError(ctx, "ERR more than 65536 bytes");
+    return run(ctx, v, (const char *)bytes, at);
+}
+
 /* ---- The RDB file ---- */
 
 static void save(RedisModuleIO *io, int when)
@@ -276,5 +303,6 @@ int RedisModule_OnLoad(RedisModuleCtx *ctx, RedisModuleString **v, int count)
     if (wake < 0 || !RM_CreateDataType(ctx, "wasmloop1", 1, &methods)) return REDISMODULE_ERR;
     return RM_CreateCommand(ctx, "wl.load", load_command, "write deny-oom admin", 0, 0, 0) || RM_CreateCommand(ctx, "wl.del", del_command, "write admin", 0, 0, 0)
         || RM_CreateCommand(ctx, "wl.list", list_command, "readonly admin", 0, 0, 0) || RM_CreateCommand(ctx, "wl.call", call_command, "readonly blocking", 0, 0, 0)
-        || RM_CreateCommand(ctx, "wl.get", get_command, "readonly blocking", 3, 3, 1);
+        || RM_CreateCommand(ctx, "wl.get", get_command, "readonly blocking", 3, 3, 1)
+        || RM_CreateCommand(ctx, "wl.mget", mget_command, "readonly blocking", 3, -1, 1);
 }

@@ -15,11 +15,13 @@ from __future__ import annotations
 import asyncio
 import collections
 import concurrent.futures
+import ctypes as c
 import threading
 import time
 from typing import AsyncIterator, Callable, Deque, Iterable, List, Optional, Set, Tuple
 
-from . import DEPTH, ENTERED, FOREVER, OVER, RAN, TRAP, Job, Loop, Module
+from . import ENTERED, FOREVER, OVER, RAN, Job, Loop, Module
+from ._calls import _text
 
 UNITS, WORK_UNITS = 3_000, 100_000                      # of a slice of a callback, and of a work request
 MOST_EMITTED = 1024                                     # so many values wait to be taken; then the loop waits
@@ -136,10 +138,9 @@ class Served:
             pass
 
     def _failure(self) -> Failed:
-        did, places = self._loop.turned.did, self._loop.stop_places()
-        how = {TRAP: f"trap {did.trap}", DEPTH: "call stack exhausted"}.get(did.ending, "out of fuel")
-        where = f", in function {places[0].function}, instruction {places[0].instruction} at byte {places[0].byte}" if places else ""
-        return Failed(f"a callback did not return: {how}, after {did.used} units{where}")
+        did = self._loop.turned.did
+        how = _text("ended_text", c.c_uint32(did.ending), c.c_uint32(did.trap), c.c_uint64(did.used))
+        return Failed(f"a callback did not return: {how}, {self._loop.stop_told()}")
 
     async def _serve(self) -> None:
         try:

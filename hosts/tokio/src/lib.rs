@@ -27,8 +27,8 @@ use std::time::Duration;
 use tokio::sync::{mpsc, oneshot};
 use tokio::task::{yield_now, JoinHandle};
 use tokio::time::{sleep, Instant};
-use wasmloop::{trap_name, Place, Turned, DEPTH, ENTERED, FAILED, OVER, RAN, RETURN, TRAP};
-pub use wasmloop::{Error, Job, Limits, Loop, Module, Task};
+use wasmloop::{Did, Turned, ENTERED, FAILED, OVER, RAN, RETURN};
+pub use wasmloop::{Ended, Error, Export, Instance, Job, Limits, Loop, Module, Task};
 
 /// Units of a slice: some tens of microseconds, the longest that a guest holds a thread of the runtime.
 pub const UNITS: u64 = 20_000;
@@ -47,6 +47,27 @@ async fn run(mut job: Job) -> Result<Job, Error> {
         yield_now().await;
     }
     Ok(job)
+}
+
+/// Calls an export of an instance in slices. Dropping the future ends the call within a slice; the instance keeps its state.
+pub async fn call(instance: &mut Instance, export: &Export, args: &[u64], fuel: u64, depth: u32) -> Result<Ended, Error> {
+    let mut ended = instance.call_for(export, args, fuel, depth, UNITS)?;
+    let called = Called(instance);
+    while ended.is_none() {
+        yield_now().await;
+        ended = called.0.run_for(UNITS)?;
+    }
+    Ok(ended.unwrap_or_default())
+}
+
+/// An instance whose call ends when this is dropped.
+struct Called<'a>(&'a mut Instance);
+
+impl Drop for Called<'_> {
+    fn drop(&mut self) {
+        // (an error if the call is over)
+        let _ = self.0.end_call();
+    }
 }
 
 /// The loop is over, has failed, or its `Served` was dropped.
@@ -86,31 +107,15 @@ impl std::error::Error for RequestError {}
 #[derive(Debug)]
 pub enum Failed {
     /// A callback did not return.
-    Callback {
-        ending: u32,
-        trap: u32,
-        used: u64,
-        /// Where it stood, innermost first.
-        places: Vec<Place>,
-    },
+    Callback { did: Did, place: String },
     Library(Error),
 }
 
 impl fmt::Display for Failed {
     fn fmt(&self, out: &mut fmt::Formatter) -> fmt::Result {
-        let (ending, trap, used, places) = match self {
-            Failed::Callback { ending, trap, used, places } => (*ending, *trap, used, places),
-            Failed::Library(error) => return error.fmt(out),
-        };
-        let why = match ending {
-            TRAP => trap_name(trap).unwrap_or("trap"),
-            DEPTH => "call stack exhausted",
-            _ => "out of fuel",
-        };
-        write!(out, "a callback did not return: {why}, after {used} units")?;
-        match places.first() {
-            Some(at) => write!(out, ", in function {}, instruction {} at byte {}", at.function, at.instruction, at.byte),
-            None => Ok(()),
+        match self {
+            Failed::Callback { did, place } => write!(out, "a callback did not return: {}, {place}", did.text()),
+            Failed::Library(error) => error.fmt(out),
         }
     }
 }
@@ -312,8 +317,8 @@ impl Serving {
     }
 
     fn failure(&mut self, turned: Turned) -> Failed {
-        match self.core.stop_places() {
-            Ok(places) => Failed::Callback { ending: turned.did.ending, trap: turned.did.trap, used: turned.did.used, places },
+        match self.core.stop_text() {
+            Ok(place) => Failed::Callback { did: turned.did, place: place.unwrap_or_default() },
             Err(error) => Failed::Library(error),
         }
     }

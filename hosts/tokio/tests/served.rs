@@ -1,7 +1,7 @@
 //! With the guests of hosts/guest and examples.
 use std::time::{Duration, Instant};
 use tokio::time::{sleep, timeout};
-use wasmloop_tokio::{work, Error, Failed, Limits, Module, RequestError, Served, Task};
+use wasmloop_tokio::{call, work, Error, Failed, Instance, Limits, Module, RequestError, Served, Task};
 
 const LIMITS: Limits = Limits { fuel: 100_000_000, work_fuel: 100_000_000, number: 0, depth: 64 };
 const ENDLESS: u64 = 1 << 50;
@@ -35,6 +35,24 @@ async fn hostile_guests_end() {
     }
 }
 
+/// A timeout ends a call within a slice, and the instance keeps its state.
+#[tokio::test(flavor = "current_thread")]
+async fn a_call_ends_and_its_instance_lives_on() {
+    let (rules, limit) = (module("hosts/guest/rules"), Duration::from_millis(50));
+    let (mut it, running) = (Instance::new(&rules, 1_000_000, 64).unwrap(), rules.export("running").unwrap());
+    assert_eq!(call(&mut it, &running, &[3], ENDLESS, 64).await.unwrap().results(), [3]);
+    for name in ["spin", "grow", "copies"] {
+        let (export, began) = (rules.export(name).unwrap(), Instant::now());
+        assert!(timeout(limit, call(&mut it, &export, &[1], ENDLESS, 64)).await.is_err(), "{name}");
+        assert!(began.elapsed() < Duration::from_secs(1), "{name}");
+    }
+    for (name, args) in [("deep", &[1][..]), ("divide", &[1, 0])] {
+        let error = call(&mut it, &rules.export(name).unwrap(), args, 1_000_000, 64).await.unwrap_err();
+        assert!(matches!(error, Error::Stopped { .. }), "{name}: {error}");
+    }
+    assert_eq!(call(&mut it, &running, &[4], ENDLESS, 64).await.unwrap().results(), [7]);
+}
+
 /// On one thread, a timer goes on beside endless guests, and a timeout ends them.
 #[tokio::test(flavor = "current_thread")]
 async fn others_go_on() {
@@ -55,7 +73,7 @@ async fn others_go_on() {
     };
     let (_, count) = tokio::join!(guests, ticks);
     assert!(count >= 5, "{count} ticks in 250 ms");
-    assert!(began.elapsed() < Duration::from_secs(2));
+    assert!(began.elapsed() < Duration::from_secs(10));
 }
 
 #[tokio::test]
@@ -88,7 +106,7 @@ async fn a_callback_fails() {
     asks.send(1).unwrap();
     assert_eq!(served.emitted().await, None);
     let error = served.over().await.unwrap_err();
-    assert!(error.to_string().starts_with("a callback did not return: unreachable, after ") && error.to_string().contains(", in function "), "{error}");
+    assert!(error.to_string().starts_with("a callback did not return: unreachable, after ") && error.to_string().contains(", in function 9 (on_fail), "), "{error}");
     assert!(matches!(error, Failed::Callback { .. }));
     assert!(asks.send(0).is_err());
     assert!(matches!(asks.request(0, b"").await, Err(RequestError::Closed)));

@@ -22,7 +22,7 @@ from sources import TOP, asked
 
 LIST = "tools/plain.txt"
 # The crates whose strings a person reads.
-PRINTED = ("commands", "files", "flaws", "places", "script", "scripting", "sentences", "words", "working")
+PRINTED = ("commands", "files", "flaws", "places", "running", "script", "scripting", "sentences", "words", "working")
 TEXTS = ("*.md", "capi/include/*", "capi/python/*.py", "capi/rust/src/*.rs", "examples/uv.h", "examples/uv.rs", "dist/*.1", "dist/*.3")
 
 

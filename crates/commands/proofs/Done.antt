@@ -1,11 +1,9 @@
 -- What the statuses 0, 3 and 4 come from.
 use Rattle.std.proofs.Common.{◌≡◌, refl, Result, Ok, Err, IfOk, IfErr, OnOk}
-use Rattle.files.specs.declared.fault.IoFault.{IoFault}
-use Rattle.files.specs.declared.fault.IoFault.TheVariants as fault
-use Rattle.commands.specs.declared.failure.Failure.{Failure}
-use Rattle.commands.specs.declared.status.ExitStatus.{ExitStatus}
-use Rattle.commands.specs.declared.status.ExitStatus.TheVariants as status
-use Rattle.commands.specs.Inner.Statuses.{number_of_status, status_of_io, status_of_failure, status_of_end}
+use Rattle.running.specs.declared.failure.Failure.{Failure}
+use Rattle.running.specs.declared.status.ExitStatus.{ExitStatus}
+use Rattle.running.specs.declared.status.ExitStatus.TheVariants as status
+use Rattle.running.specs.Statuses.{number_of_status, status_of_failure, status_of_end}
 
 pub done_of : (s : ExitStatus) → number_of_status s ≡ 0 → s ≡ status.Done
 done_of status.Done h = refl
@@ -16,11 +14,6 @@ at_ok (Ok t) P s h is =
     let same : t ≡ s = cc in
     rw same at h
 at_ok (Err e) P s h is = cc
-
--- what stands in the way refuses no module
-pub refuses_none : (f : IoFault) → status_of_io f ≡ status.Refused → ⊥
-refuses_none fault.Memory is = cc
-refuses_none _ is = cc
 
 -- two facts of what is Ok
 pub both : {E : Type 0} (r : Result ExitStatus E) (A B : Type 0) → OnOk r A → OnOk r B → IfOk r (λ (s : ExitStatus). s ≡ status.Done → A × B)

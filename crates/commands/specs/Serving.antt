@@ -6,7 +6,7 @@ use Rattle.serve.specs.declared.served.Served.{Served}
 use Rattle.serve.specs.declared.served.LoopEnding.TheVariants.{Failed}
 use Rattle.serve.specs.Answers.{IsServed}
 use Rattle.words.specs.declared.command.ServeCommand.{ServeCommand}
-use Rattle.commands.specs.Accepted.{IsLoaded}
+use Rattle.running.specs.Accepted.{IsLoaded}
 
 -- the loop of a number, of this module, with what the words let it spend
 abbrev pub asked_loop : ServeCommand → Loaded → (loop_no : ℕ) → Setting

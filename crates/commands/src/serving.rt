@@ -3,16 +3,14 @@
 ghost use Rattle.std.specs.Prelude.{◌≡◌, ◌↔◌, All, IfOk, IsTrue, length};
 ghost use Rattle.std.specs.Arc.{arc_value};
 ghost use Rattle.serve.specs.Answers.{EachServed};
-ghost use Rattle.commands.specs.Accepted.{IsLoaded};
+ghost use Rattle.running.specs.Accepted.{IsLoaded};
 ghost use Rattle.commands.specs.Serving.{HasNotFailed, AreServed, HasServedAll};
 
-use crate::failure::Failure;
-use crate::loading::load;
-use crate::status::ExitStatus;
 use crate::telling::Teller;
 use crate::tracing::Trace;
 use files::Reader;
 use imports::Linked;
+use running::{ExitStatus, Failure, load};
 use sentences::warn_loop;
 use serve::{Job, LoopEnding, Served, Serving, Task, serve, serve_watched};
 use std::alloc::{AllocError, Global};

@@ -1,7 +1,7 @@
 use Rattle.std.proofs.Common.{string_bytes}
 use Rattle.std.proofs.lemmas.Result.{IfOk-weaker}
 use Rattle.std.specs.Arc.{arc_value}
-use Rattle.commands.specs.Accepted.{IsLoaded}
+use Rattle.running.specs.Accepted.{IsLoaded}
 use Rattle.commands.proofs.serving.serve_file.Goals as goal
 
 pub returns : goal.returns

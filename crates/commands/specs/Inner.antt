@@ -1,2 +1,0 @@
--- No public clause reaches these: the numbers of statuses.
-pub mod Statuses

@@ -1,0 +1,4 @@
+pub mod Calls
+pub mod InvocationParts
+pub mod NoRefusal
+pub mod WordsSpell

@@ -185,7 +185,7 @@ def wrong_words():
         (lambda: module.work(0, bytes(65_537)), "OutOfRange: length 65537 is out of range: expected 0 to 65536"),
         (lambda: wasmloop.Module("x"), "TypeError: expected the bytes of a module, got str: if it is a path, pass open('x', 'rb').read()"),
         (lambda: wasmloop.Module(b"x"), "Refused: byte 0: the bytes don't begin with 00 61 73 6d: a text file (give the module that wasm-ld wrote)"),
-        (lambda: wasmloop.Module(b"\0"), "Refused: byte 1: unexpected end of data (it is cut short: copy or build it again)"),
+        (lambda: wasmloop.Module(b"\0"), "Refused: byte 1: unexpected end of data (cut short? copy or build it again)"),
         (lambda: wasmloop.Module(b""), "Refused: byte 0: the module is empty (build it again)"),
         (lambda: wasmloop.Module(io.BytesIO()), "TypeError: expected bytes, got BytesIO: pass its read()"),
         (lambda: copy.copy(module), "TypeError: cannot copy this module: it has one owner; a module's share() gives a second handle"),

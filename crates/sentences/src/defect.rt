@@ -44,7 +44,10 @@ pub enum Defect {
     /// An index of the instruction names nothing.
     Index(Dangling),
     /// The instruction asks for an alignment of 2 to this power, and accesses so many bytes.
-    Alignment { power: u32, bytes: u32 },
+    Alignment {
+        power: u32,
+        bytes: u32,
+    },
     /// The instruction sets this global, which is constant.
     Immutable(u32),
     /// An index of the entry names nothing.
@@ -140,23 +143,28 @@ impl fmt::Display for Defect {
             Defect::Alignment { power, bytes } => {
                 write!(
                     f,
-                    "the alignment, 2^{power} bytes, is larger than the access, {bytes} bytes"
+                    "the alignment is larger than the access; in bytes: 2^{power} and {bytes}"
                 )
             }
-            Defect::Immutable(global) => write!(f, "assignment to global {global}, which is immutable"),
+            Defect::Immutable(global) => write!(
+                f,
+                "assignment to global {global}, which is immutable"
+            ),
             Defect::EntryIndex(entry, dangling) => write!(f, "{entry}: {dangling}"),
-            Defect::Results {
-                entry,
-                count,
-                most,
-            } => write!(f, "{entry}: results: {count}, at most {most}"),
+            Defect::Results { entry, count, most } => write!(
+                f,
+                "{entry}: {count} results, at most {most}"
+            ),
             Defect::Twice {
                 first,
                 second,
                 name,
             } => {
                 let name = Shown(name.as_str());
-                write!(f, "duplicate export name \"{name}\" (exports {first} and {second})")
+                write!(
+                    f,
+                    "duplicate export name \"{name}\" (exports {first} and {second})"
+                )
             }
             Defect::Start {
                 function,

@@ -1,11 +1,11 @@
 // What breaks a rule in a section but that of code.
 
-ghost use Rattle.std.specs.Prelude.{◌≡◌, ◌<◌, length, string_bytes, IfOk, IfSome, IsTrue, String};
+ghost use Rattle.std.specs.Prelude.{◌≡◌, ◌<◌, length, IfOk, IfSome, IsTrue};
 ghost use Rattle.syntax.specs.declared.types.ValType.TheVariants.{I32};
 ghost use Rattle.validate.specs.Typing.{type_of};
 ghost use Rattle.validate.specs.Valid.{IsConstant};
 ghost use Rattle.sentences.specs.declared.defect.Defect.TheVariants as defect;
-ghost use Rattle.sentences.specs.Defects.{EntryNames, IsDefectOfSection, section_of_entry, space_of_extern};
+ghost use Rattle.sentences.specs.Defects.{EntryNames, HaveOneName, IsDefectOfSection, section_of_entry, space_of_extern};
 
 use crate::defect::{Defect, IndexSpace, SectionEntry};
 use crate::spaces::{count_in_module, dangling};
@@ -109,14 +109,16 @@ fn space_of(kind: ExternKind) -> IndexSpace
     }
 }
 
-/// An export that has the name of an earlier one. (The names of a decoded module are UTF-8, so that only an allocation can fail.)
+/// Two exports with one name. (The names of a decoded module are UTF-8, so that only an allocation can fail.)
 fn twice(
     alloc: Global,
+    contents: &Contents,
     first: usize,
     second: usize,
     name: &[u8],
 ) -> Result<Defect, AllocError>
-    ensures { IfOk result (λ told. (text : String) × (told ≡ defect.Twice first second text) × (string_bytes text ≡ name.now)) }
+    requires { HaveOneName contents.now first second name.now }
+    ensures { IfOk result (IsDefectOfSection contents.now 7) }
 {
     match Place::export(alloc, name) {
         Some(Place::Export { name }) => Ok(Defect::Twice {
@@ -137,7 +139,7 @@ fn of_export(alloc: Global, module: &Module, number: usize) -> Result<Option<Def
     };
     let name = export.name.as_slice();
     match module.export_place(name) {
-        Some(first) if first < number => Ok(Some(twice(alloc, first, number, name)?)),
+        Some(first) if first < number => Ok(Some(twice(alloc, contents, first, number, name)?)),
         _ => Ok(past(
             contents,
             SectionEntry::Export(number),
@@ -157,7 +159,12 @@ fn of_start(contents: &Contents) -> Option<Defect>
             params: func_type.params.len(),
             results: func_type.results.len(),
         }),
-        None => past(contents, SectionEntry::Start, IndexSpace::Functions, function),
+        None => past(
+            contents,
+            SectionEntry::Start,
+            IndexSpace::Functions,
+            function,
+        ),
     }
 }
 

@@ -30,10 +30,7 @@ fn is_source(text: &[u8]) -> bool {
 }
 
 fn is_text(bytes: &[u8]) -> bool {
-    bytes
-        .iter()
-        .take(LOOKED_AT)
-        .all(|byte| byte.is_ascii_graphic() || byte.is_ascii_whitespace())
+    bytes.iter().take(LOOKED_AT).all(|byte| byte.is_ascii_graphic() || byte.is_ascii_whitespace())
 }
 
 /// What a text is that begins with these bytes.
@@ -61,7 +58,10 @@ pub fn kind_of_file(bytes: &[u8]) -> Option<FileKind> {
         [0xfd, b'7', b'z', b'X', b'Z', ..] => kind("an xz file", "decompress it"),
         [b'P', b'K', 0x03, 0x04, ..] => kind("a zip file", "unpack it"),
         [0x7f, b'E', b'L', b'F', ..] => kind("an ELF file", "compile with --target=wasm32"),
-        [b'!', b'<', b'a', b'r', b'c', b'h', b'>', ..] => kind("an archive", "link it with wasm-ld"),
+        [b'!', b'<', b'a', b'r', b'c', b'h', b'>', ..] => kind(
+            "an archive",
+            "link it with wasm-ld",
+        ),
         [b'B', b'C', 0xc0, 0xde, ..] => kind("LLVM bitcode", "compile without -flto"),
         _ => kind_of_text(bytes.trim_ascii_start()),
     }

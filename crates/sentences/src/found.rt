@@ -59,7 +59,11 @@ pub fn end(bytes: &[u8], at: usize, part: Option<Part>) -> Option<Reason> {
 pub fn counts(bytes: &[u8]) -> Reason {
     let (functions, bodies) = (count_in(bytes, FUNCTIONS), count_in(bytes, CODE));
     let reason = Reason::counts(functions, bodies);
-    if bodies == 0 { reason.with(CUT) } else { reason }
+    if bodies == 0 {
+        reason.with(CUT)
+    } else {
+        reason
+    }
 }
 
 /// Which segment of a section of segments is newer than WebAssembly 1.0.

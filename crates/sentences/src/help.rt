@@ -36,4 +36,4 @@ pub const DEFINED: &str =
 pub const AGAIN: &str = "build it again";
 
 /// A copy or a download that stopped leaves such a file.
-pub const CUT: &str = "it is cut short: copy or build it again";
+pub const CUT: &str = "cut short? copy or build it again";

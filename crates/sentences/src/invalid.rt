@@ -102,7 +102,11 @@ fn defect_of(
 }
 
 /// The part of the module that is not valid for this fault, and what is found there.
-pub fn invalid(alloc: Global, bytes: &[u8], fault: ValidFault) -> Result<Option<Finding>, AllocError>
+pub fn invalid(
+    alloc: Global,
+    bytes: &[u8],
+    fault: ValidFault,
+) -> Result<Option<Finding>, AllocError>
     ensures { IfOk result (λ found. IfSome found (λ it. IsToldOf (Validate fault) bytes.now it.place it.defect)) }
 {
     let module = match decoded(alloc, bytes) {

@@ -69,7 +69,10 @@ fn named_by(instr: &Instr<'_>, labels: usize) -> Option<SpaceIndex>
         Instr::GlobalGet(global) | Instr::GlobalSet(global) => at(IndexSpace::Globals, *global),
         Instr::Br(label) | Instr::BrIf(label) => at(IndexSpace::Labels, *label),
         Instr::BrTable(all, default) => {
-            at(IndexSpace::Labels, first_past(all.as_slice(), *default, labels))
+            at(
+                IndexSpace::Labels,
+                first_past(all.as_slice(), *default, labels),
+            )
         }
         _ => None,
     }

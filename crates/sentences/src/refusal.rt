@@ -37,11 +37,7 @@ impl fmt::Display for RefusalAccount {
 }
 
 /// What is found at the place of the rejection. The bytes are read again.
-fn found_at(
-    refusal: Refusal,
-    alloc: Global,
-    bytes: &[u8],
-) -> Result<Option<Finding>, AllocError>
+fn found_at(refusal: Refusal, alloc: Global, bytes: &[u8]) -> Result<Option<Finding>, AllocError>
     ensures { IfOk result (λ found. IfSome found (λ it. IsToldOf refusal bytes.now it.place it.defect)) }
 {
     match refusal {
@@ -66,11 +62,13 @@ fn account(refusal: Refusal, bytes: &[u8], finding: Option<Finding>) -> RefusalA
     ensures { IsTrueOf refusal bytes.now result }
 {
     match finding {
-        Some(Finding {
-            place,
-            defect,
-            reason,
-        }) => RefusalAccount {
+        Some(
+            Finding {
+                place,
+                defect,
+                reason,
+            },
+        ) => RefusalAccount {
             place: Some(place),
             defect,
             reason: reason_of(refusal, bytes, reason),

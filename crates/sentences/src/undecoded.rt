@@ -38,7 +38,11 @@ fn reason_of(bytes: &[u8], refused: MalformedAt, part: Option<Part>) -> Option<R
 }
 
 /// The byte at which the bytes are refused for this fault, the part in which it or what is missing there lies, and what is found.
-pub fn undecoded(alloc: Global, bytes: &[u8], fault: DecodeFault) -> Result<Option<Finding>, AllocError>
+pub fn undecoded(
+    alloc: Global,
+    bytes: &[u8],
+    fault: DecodeFault,
+) -> Result<Option<Finding>, AllocError>
     ensures { IfOk result (λ found. IfSome found (λ it. IsToldOf (Decode fault) bytes.now it.place it.defect)) }
 {
     let Some(refused) = refused_at(alloc, bytes) else {

@@ -154,7 +154,11 @@ fn part_of(
 }
 
 /// What part of the module does not fit the host, and what else is known.
-pub fn unlinked(alloc: Global, bytes: &[u8], fault: LinkFault) -> Result<Option<Finding>, AllocError>
+pub fn unlinked(
+    alloc: Global,
+    bytes: &[u8],
+    fault: LinkFault,
+) -> Result<Option<Finding>, AllocError>
     ensures { IfOk result (λ found. IfSome found (λ it. IsToldOf (Link fault) bytes.now it.place it.defect)) }
 {
     let valid = match validated(alloc, bytes) {

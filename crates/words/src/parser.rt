@@ -97,9 +97,8 @@ fn invoke(alloc: Global, matches: &ArgMatches<'_>) -> Result<Command, Refused> {
 
 /// Why a word is not hexadecimal. The first character that is no digit tells more than how many there are.
 fn digits_fault(word: &str, fault: FromHexError) -> FromHexError {
-    for (index, byte) in word.as_bytes().iter().enumerate() {
-        if !byte.is_ascii_hexdigit() {
-            let c = char::from(*byte);
+    for (index, c) in word.char_indices() {
+        if !c.is_ascii_hexdigit() {
             return FromHexError::InvalidHexCharacter { c, index };
         }
     }

@@ -19,4 +19,4 @@ loop-at-preserved c =
     let before : c.loop-at.depth ≡ open_before at ops 0 = c.loop-at.invariant.0 in
     let more : open_before (at + 1) ops 0 ≡ open_behind o (open_before at ops 0) =
     ap (λ (n : ℕ). open_before n ops 0) (add-one at) ∙ open_more ops at 0 o c.operation.ensures in
-    (c.open_behind.ensures.value ∙ ap (open_behind o) before ∙ sym more, omega arith)
+    (c.open_behind-depth.ensures.value ∙ ap (open_behind o) before ∙ sym more, omega arith)

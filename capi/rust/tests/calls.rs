@@ -128,8 +128,9 @@ fn what_is_late_leaves_its_instance() {
 #[test]
 fn a_wrong_number_is_told_with_its_range() {
     let (crc, digest) = (module("crc32"), module("digest"));
-    assert_eq!(said(Module::new(b"asm")), "byte 0: the bytes don't begin with 00 61 73 6d");
-    assert_eq!(wasmloop::explain(b"asm").unwrap(), Some("byte 0: the bytes don't begin with 00 61 73 6d".into()));
+    let text = "byte 0: the bytes don't begin with 00 61 73 6d: a text file (give the module that wasm-ld wrote)";
+    assert_eq!(said(Module::new(b"asm")), text);
+    assert_eq!(wasmloop::explain(b"asm").unwrap(), Some(text.into()));
     assert!(matches!(Module::new(b"asm"), Err(Error::Refused { fault, .. }) if fault.name() == Some("Magic")));
     assert_eq!(said(crc.job(task(1), &[0; 65_537])), "length 65537 is out of range: expected 0 to 65536");
     assert_eq!(said(crc.work(Task { depth: 0, ..task(1) }, b"")), "depth 0 is out of range: expected 1 to 128");

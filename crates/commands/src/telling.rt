@@ -4,7 +4,7 @@ use events::phase::EntryKind;
 use imports::EntryPoint;
 use limits::{MAX_BYTES, MAX_DEPTH};
 use order::{Order, Told};
-use sentences::{Allowed, Ran, Unfinished, What, tell_stopped, unit_of, warn_refused};
+use sentences::{Allowed, Ran, Unfinished, What, tell_stopped, unit_of, warn_clock, warn_refused};
 use serve::{Account, Callback, LoopEnding, Served};
 use std::alloc::Global;
 use std::io::{self, Write};
@@ -93,6 +93,7 @@ impl Teller<'_> {
         for one in served {
             self.tell_ending(&one, err)?;
             warn_refused(one.loop_no, one.account.refused(), err)?;
+            warn_clock(one.loop_no, one.account.now(), err)?;
             self.tell_most(&one, err)?;
             self.tell_work(one, err)?;
         }

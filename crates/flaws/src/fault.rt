@@ -20,25 +20,37 @@ fn spot_of(text: &str, at: usize) -> (usize, usize) {
     spot
 }
 
-/// What a text may be that is not JSON from its first letter.
-fn other_text(text: &str) -> &'static str {
-    if text.starts_with("\0asm") {
-        return " (this is a module: run it with 'wasmloop serve FILE --loops 1 --workers 1')";
-    }
-    match text.trim_start().as_bytes().first() {
-        Some(b'#' | b'a'..=b'z') => " (a list of steps? convert it with examples/script.py)",
-        _ => "",
-    }
+/// Whether a text may be a list of steps, by its first letter.
+fn may_be_steps(text: &str) -> bool {
+    matches!(
+        text.trim_start().as_bytes().first(),
+        Some(b'#' | b'a'..=b'z')
+    )
 }
 
-/// Why a text is not JSON, if it is not nested too deeply.
-fn no_json_at(alloc: Global, error: &serde_json::Error, text: &str) -> Option<String> {
+/// Why a text is not JSON, if it is not nested too deeply, where it is known to be something else.
+fn no_json_at(
+    alloc: Global,
+    error: &serde_json::Error,
+    text: &str,
+    other: Option<&str>,
+) -> Option<String> {
+    if text.trim_start().is_empty() {
+        return String::from_str(alloc, "the file is empty: a script is a JSON object").ok();
+    }
     let (line, column) = (error.line(), error.column());
     if error.is_eof() {
         return format!(in alloc; "line {line}, column {column}: unexpected end of JSON").ok();
     }
-    let other = other_text(text);
-    format!(in alloc; "line {line}, column {column}: invalid JSON{other}").ok()
+    match other {
+        Some(other) => {
+            format!(in alloc; "line {line}, column {column}: invalid JSON (this is {other})").ok()
+        }
+        None if may_be_steps(text) => format!(in alloc;
+            "line {line}, column {column}: invalid JSON (a list of steps? convert it with examples/script.py)"
+        ).ok(),
+        None => format!(in alloc; "line {line}, column {column}: invalid JSON").ok(),
+    }
 }
 
 /// Where a text nests deeper than is read, if it is JSON up to there.
@@ -50,7 +62,7 @@ fn too_deep(error: &serde_json::Error, text: &str) -> Option<(usize, usize)> {
     Some(spot)
 }
 
-fn no_json(alloc: Global, text: &str) -> Option<String> {
+fn no_json(alloc: Global, text: &str, other: Option<&str>) -> Option<String> {
     let Err(error) = serde_json::from_str::<Value>(alloc, text) else {
         return None;
     };
@@ -63,7 +75,7 @@ fn no_json(alloc: Global, text: &str) -> Option<String> {
                 "line {line}, column {column}: nested deeper than {MAX_DEPTH} levels"
             ).ok()
         }
-        None => no_json_at(alloc, &error, text),
+        None => no_json_at(alloc, &error, text, other),
     }
 }
 
@@ -96,9 +108,15 @@ fn walked(alloc: Global, fault: ScriptFault, text: &str) -> Option<String> {
 }
 
 /// A sentence that says where the text has this fault and what is found there; None if memory runs out. It reads the text again.
-pub fn script_fault(alloc: Global, fault: ScriptFault, text: &str) -> Option<String> {
+/// `other` is what the text is, if it is known to be no script.
+pub fn script_fault(
+    alloc: Global,
+    fault: ScriptFault,
+    text: &str,
+    other: Option<&str>,
+) -> Option<String> {
     match fault {
-        ScriptFault::Json => no_json(alloc, text),
+        ScriptFault::Json => no_json(alloc, text, other),
         ScriptFault::Shape | ScriptFault::Hex | ScriptFault::Range => walked(alloc, fault, text),
         ScriptFault::Memory => None,
     }

@@ -197,7 +197,7 @@ impl fmt::Display for Wrong<'_> {
             Wrong::Digits(fault) => {
                 write!(
                     f,
-                    "{fault}: expected two hexadecimal digits per byte, without 0x or spaces"
+                    "{fault}: expected the module's bytes, two hexadecimal digits each, without 0x or spaces"
                 )
             }
         }

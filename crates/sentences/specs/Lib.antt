@@ -1,1 +1,2 @@
+pub mod Defects
 pub mod RefusalPlaces

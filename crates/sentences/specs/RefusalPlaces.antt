@@ -1,5 +1,5 @@
--- Where bytes are refused: the place that is told is that of the part which the refusing stage names.
-use Rattle.std.specs.Prelude.{◌≡◌, ◌≢◌, ℕ, ◌≤◌, List, length, Some, slice_get}
+-- Where bytes are refused, and for what: the place that is told is that of the part which the refusing stage names.
+use Rattle.std.specs.Prelude.{◌≡◌, ◌≢◌, ℕ, ◌≤◌, List, length, Option, Some, None, IfSome, slice_get}
 use Rattle.syntax.specs.declared.contents.Contents.{Contents}
 use Rattle.syntax.specs.declared.contents.Import.{Import}
 use Rattle.syntax.specs.declared.contents.ModuleExport.{ModuleExport}
@@ -16,6 +16,9 @@ use Rattle.imports.specs.declared.site.UnlinkedPart.TheVariants as misfit
 use Rattle.places.specs.declared.place.Place.{Place}
 use Rattle.places.specs.declared.place.Place.TheVariants as place
 use Rattle.places.specs.Places.{IsPlaceOfSection, IsPlaceOfFunction, IsPlaceOfOperation, IsPlaceOfImport, IsPlaceOfExport, IsPartWith}
+use Rattle.sentences.specs.Defects.{IsDefectOf}
+use Rattle.sentences.specs.declared.defect.Defect.{Defect}
+use Rattle.sentences.specs.declared.refusal.RefusalAccount.{RefusalAccount}
 use Rattle.loader.specs.declared.refusal.Refusal.{Refusal}
 use Rattle.loader.specs.declared.refusal.Refusal.TheVariants.{Memory, Decode, Validate, Link}
 
@@ -37,9 +40,20 @@ abbrev pub IsPlaceOfStop : List ℕ → Place → Type 0
 IsPlaceOfStop bytes (place.Byte at part) = at ≤ length bytes
 IsPlaceOfStop bytes _ = ⊥
 
--- The stage refuses the bytes, validation by this fault, and this is the place of what it names. Want of memory has none.
-abbrev pub IsPlaceOf : Refusal → List ℕ → Place → Type 0
-IsPlaceOf Memory bytes told = ⊥
-IsPlaceOf (Decode fault) bytes told = (fault ≢ decoding.Memory → SpellsNothing bytes) × IsPlaceOfStop bytes told
-IsPlaceOf (Validate fault) bytes told = (m : Contents) × Spells bytes m × (at : InvalidPart) × BreaksAt m fault at × IsPlaceOfSite bytes at told
-IsPlaceOf (Link fault) bytes told = (m : Contents) × Spells bytes m × ValidModule m × (at : Misfit) × IsMisfit m at × IsPlaceOfMisfit bytes m at told
+-- The stage refuses the bytes, validation by this fault, this is the place of what it names, and of validity a defect that is told is one of
+-- that part. Want of memory has none.
+abbrev pub IsToldOf : Refusal → List ℕ → Place → Option Defect → Type 0
+IsToldOf Memory bytes told broken = ⊥
+IsToldOf (Decode fault) bytes told broken = (fault ≢ decoding.Memory → SpellsNothing bytes) × IsPlaceOfStop bytes told × (broken ≡ None)
+IsToldOf (Validate fault) bytes told broken =
+    (m : Contents) × Spells bytes m × (at : InvalidPart) × BreaksAt m fault at × IsPlaceOfSite bytes at told × IfSome broken (IsDefectOf m at)
+IsToldOf (Link fault) bytes told broken =
+    (m : Contents) × Spells bytes m × ValidModule m × (at : Misfit) × IsMisfit m at × IsPlaceOfMisfit bytes m at told × (broken ≡ None)
+
+-- as far as a place is told; no defect is told without it
+abbrev pub IsTrueAt : Refusal → List ℕ → Option Defect → Option Place → Type 0
+IsTrueAt refusal bytes broken (Some place) = IsToldOf refusal bytes place broken
+IsTrueAt refusal bytes broken None = broken ≡ None
+
+abbrev pub IsTrueOf : Refusal → List ℕ → RefusalAccount → Type 0
+IsTrueOf refusal bytes told = IsTrueAt refusal bytes told.defect told.place

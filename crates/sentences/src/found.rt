@@ -1,7 +1,8 @@
 // What is found at the byte at which `decode` rejects a module, and what helps.
 
 use crate::extension::{self, Proposal};
-use crate::help::{LOWERED, NO_TABLES, OPTIMIZED, PLAIN, SOFT};
+use crate::file_kind::{FileKind, kind_of_file};
+use crate::help::{AGAIN, CUT, LOWERED, NO_TABLES, OPTIMIZED, PLAIN, SOFT};
 use crate::reason::Reason;
 use limits::{
     MAX_DECLARED_PAGES, MAX_EXPORTS, MAX_FUNCTIONS, MAX_GLOBALS, MAX_IMPORTS, MAX_LABELS,
@@ -24,25 +25,9 @@ fn newer(byte: u8, what: Proposal) -> Reason {
     Reason::byte(byte, what.name).with(what.help)
 }
 
-/// Whether the bytes begin as the text format does: with a bracket or a comment after blanks.
-fn is_text(bytes: &[u8]) -> bool {
-    let first = bytes
-        .iter()
-        .copied()
-        .find(|byte| !byte.is_ascii_whitespace());
-    matches!(first, Some(b'(' | b';'))
-}
-
 /// What bytes are that do not begin as a module does, if that is known.
 pub fn format(bytes: &[u8]) -> Option<Reason> {
-    let (name, help) = match bytes {
-        _ if is_text(bytes) => ("a text file", "assemble it with wat2wasm"),
-        [0x1f, 0x8b, ..] => ("a gzip file", "decompress it"),
-        [0x7f, b'E', b'L', b'F', ..] => ("an ELF file", "compile with --target=wasm32"),
-        [b'!', b'<', b'a', b'r', b'c', b'h', b'>', ..] => ("an archive", "link it with wasm-ld"),
-        [b'B', b'C', 0xc0, 0xde, ..] => ("LLVM bitcode", "compile without -flto"),
-        _ => return None,
-    };
+    let FileKind { name, help } = kind_of_file(bytes)?;
     Some(Reason::format(name).with(help))
 }
 
@@ -55,17 +40,30 @@ pub fn version(bytes: &[u8]) -> Option<Reason> {
     Some(reason.with("this host runs core modules only"))
 }
 
-/// Which section the bytes end in.
-pub fn end(bytes: &[u8], at: usize) -> Option<Reason> {
+/// Where the bytes end too early: at once, within a section, or between two.
+pub fn end(bytes: &[u8], at: usize, part: Option<Part>) -> Option<Reason> {
+    if bytes.is_empty() {
+        return Some(Reason::words("the module is empty").with(AGAIN));
+    }
     if at < bytes.len() {
         return None;
     }
-    Some(Reason::cut_short(cut_short(bytes)?))
+    match (cut_short(bytes), part) {
+        (Some(cut), _) => Some(Reason::cut_short(cut).with(CUT)),
+        (None, None) => Some(Reason::words("unexpected end of data").with(CUT)),
+        (None, Some(_)) => None,
+    }
 }
 
 /// How many functions and bodies there are.
 pub fn counts(bytes: &[u8]) -> Reason {
-    Reason::counts(count_in(bytes, FUNCTIONS), count_in(bytes, CODE))
+    let (functions, bodies) = (count_in(bytes, FUNCTIONS), count_in(bytes, CODE));
+    let reason = Reason::counts(functions, bodies);
+    if bodies == 0 {
+        reason.with(CUT)
+    } else {
+        reason
+    }
 }
 
 /// Which segment of a section of segments is newer than WebAssembly 1.0.

@@ -31,3 +31,9 @@ pub const LINKED: &str = "link it with wasm-ld";
 /// An import that is not a function of the host is missing in the module.
 pub const DEFINED: &str =
     "link a definition, for WASI examples/kit/wasi.c, or declare it as examples/uv.h does";
+
+/// A build that failed leaves such a file.
+pub const AGAIN: &str = "build it again";
+
+/// A copy or a download that stopped leaves such a file.
+pub const CUT: &str = "cut short? copy or build it again";

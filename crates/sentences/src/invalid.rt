@@ -2,16 +2,21 @@
 
 ghost use Rattle.std.specs.Prelude.{IfOk, IfSome};
 ghost use Rattle.loader.specs.declared.refusal.Refusal.TheVariants.{Validate};
-ghost use Rattle.sentences.specs.RefusalPlaces.{IsPlaceOf, IsPlaceOfSite};
+ghost use Rattle.sentences.specs.Defects.{IsDefectOf};
+ghost use Rattle.sentences.specs.RefusalPlaces.{IsPlaceOfSite, IsToldOf};
 
+use crate::defect::Defect;
+use crate::entries::section_defect;
 use crate::found;
 use crate::help::{NO_TABLES, OPTIMIZED};
+use crate::operations::operation_defect;
 use crate::reason::{Finding, Reason};
 use crate::types::name_of_type;
 use limits::{MAX_HEIGHT, MAX_LOCALS, MAX_NESTING};
 use loader::{Refusal, decoded};
-use places::{Place, place_of_function, place_of_operation, place_of_section};
+use places::{Place, is_object, place_of_function, place_of_operation, place_of_section};
 use std::alloc::{AllocError, Global};
+use syntax::module::Module;
 use validate::{InvalidPart, Unfit, ValidFault, refused_at};
 
 fn place_of(bytes: &[u8], site: InvalidPart) -> Option<Place>
@@ -72,9 +77,37 @@ fn reason_of(bytes: &[u8], fault: ValidFault, site: InvalidPart, place: &Place) 
     Some(Reason::more_than(most as u64, things).with(help))
 }
 
+/// What breaks the rule of the fault, by numbers, unless more is known. Of an object file it is not told: it is not linked yet.
+fn defect_of(
+    alloc: Global,
+    module: &Module,
+    fault: ValidFault,
+    site: InvalidPart,
+    is_known: bool,
+) -> Result<Option<Defect>, AllocError>
+    ensures { IfOk result (λ found. IfSome found (IsDefectOf «module».now.contents site)) }
+{
+    if is_known || is_object(module.bytes()) {
+        return Ok(None);
+    }
+    match site {
+        InvalidPart::Section(section) => section_defect(alloc, module, section),
+        InvalidPart::Function(_) => Ok(None),
+        InvalidPart::Operation {
+            function,
+            number,
+            ..
+        } => Ok(operation_defect(module.contents(), fault, function, number)),
+    }
+}
+
 /// The part of the module that is not valid for this fault, and what is found there.
-pub fn invalid(alloc: Global, bytes: &[u8], fault: ValidFault) -> Result<Finding, AllocError>
-    ensures { IfOk result (λ found. IfSome found (λ it. IsPlaceOf (Validate fault) bytes.now it.0)) }
+pub fn invalid(
+    alloc: Global,
+    bytes: &[u8],
+    fault: ValidFault,
+) -> Result<Option<Finding>, AllocError>
+    ensures { IfOk result (λ found. IfSome found (λ it. IsToldOf (Validate fault) bytes.now it.place it.defect)) }
 {
     let module = match decoded(alloc, bytes) {
         Ok(module) => module,
@@ -94,5 +127,10 @@ pub fn invalid(alloc: Global, bytes: &[u8], fault: ValidFault) -> Result<Finding
         return Ok(None);
     };
     let reason = reason_of(bytes, refused.fault, refused.site, &place);
-    Ok(Some((place, reason)))
+    let defect = defect_of(alloc, &module, fault, refused.site, reason.is_some())?;
+    Ok(Some(Finding {
+        place,
+        defect,
+        reason,
+    }))
 }

@@ -1,6 +1,7 @@
 // Why bytes are rejected, in words.
 
 use crate::count::Grouped;
+use crate::defect::Defect;
 use places::{CutShort, Place};
 use std::fmt;
 
@@ -51,8 +52,13 @@ enum Help {
     Told(String),
 }
 
-/// Where bytes are rejected and what is found there, as far as that is known.
-pub type Finding = Option<(Place, Option<Reason>)>;
+/// Where bytes are rejected, and what is found there, as far as that is known.
+#[derive(Debug, Drop)]
+pub struct Finding {
+    pub place: Place,
+    pub defect: Option<Defect>,
+    pub reason: Option<Reason>,
+}
 
 /// Why bytes are rejected. It prints as a sentence, followed by what helps in brackets.
 #[derive(Debug, Drop)]

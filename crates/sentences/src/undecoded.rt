@@ -2,7 +2,7 @@
 
 ghost use Rattle.std.specs.Prelude.{IfOk, IfSome};
 ghost use Rattle.loader.specs.declared.refusal.Refusal.TheVariants.{Decode};
-ghost use Rattle.sentences.specs.RefusalPlaces.{IsPlaceOf};
+ghost use Rattle.sentences.specs.RefusalPlaces.{IsToldOf};
 
 use crate::found;
 use crate::reason::{Finding, Reason};
@@ -27,7 +27,7 @@ fn reason_of(bytes: &[u8], refused: MalformedAt, part: Option<Part>) -> Option<R
     match fault {
         DecodeFault::Magic => found::format(bytes),
         DecodeFault::Version => found::version(bytes),
-        DecodeFault::End => found::end(bytes, at),
+        DecodeFault::End => found::end(bytes, at, part),
         DecodeFault::Counts => Some(found::counts(bytes)),
         DecodeFault::Opcode => found::opcode(bytes, at),
         DecodeFault::Profile => found::profile(*bytes.get(at)?),
@@ -38,8 +38,12 @@ fn reason_of(bytes: &[u8], refused: MalformedAt, part: Option<Part>) -> Option<R
 }
 
 /// The byte at which the bytes are refused for this fault, the part in which it or what is missing there lies, and what is found.
-pub fn undecoded(alloc: Global, bytes: &[u8], fault: DecodeFault) -> Result<Finding, AllocError>
-    ensures { IfOk result (λ found. IfSome found (λ it. IsPlaceOf (Decode fault) bytes.now it.0)) }
+pub fn undecoded(
+    alloc: Global,
+    bytes: &[u8],
+    fault: DecodeFault,
+) -> Result<Option<Finding>, AllocError>
+    ensures { IfOk result (λ found. IfSome found (λ it. IsToldOf (Decode fault) bytes.now it.place it.defect)) }
 {
     let Some(refused) = refused_at(alloc, bytes) else {
         return Ok(None);
@@ -56,5 +60,9 @@ pub fn undecoded(alloc: Global, bytes: &[u8], fault: DecodeFault) -> Result<Find
         _ => at,
     };
     let part = part_with(bytes, last);
-    Ok(Some((Place::Byte { at, part }, reason_of(bytes, refused, part))))
+    Ok(Some(Finding {
+        place: Place::Byte { at, part },
+        defect: None,
+        reason: reason_of(bytes, refused, part),
+    }))
 }

@@ -2,7 +2,7 @@
 
 ghost use Rattle.std.specs.Prelude.{IfOk, IfSome};
 ghost use Rattle.loader.specs.declared.refusal.Refusal.TheVariants.{Link};
-ghost use Rattle.sentences.specs.RefusalPlaces.{IsPlaceOf, IsPlaceOfMisfit};
+ghost use Rattle.sentences.specs.RefusalPlaces.{IsPlaceOfMisfit, IsToldOf};
 
 use crate::help::DEFINED;
 use crate::meanings::of_link;
@@ -154,8 +154,12 @@ fn part_of(
 }
 
 /// What part of the module does not fit the host, and what else is known.
-pub fn unlinked(alloc: Global, bytes: &[u8], fault: LinkFault) -> Result<Finding, AllocError>
-    ensures { IfOk result (λ found. IfSome found (λ it. IsPlaceOf (Link fault) bytes.now it.0)) }
+pub fn unlinked(
+    alloc: Global,
+    bytes: &[u8],
+    fault: LinkFault,
+) -> Result<Option<Finding>, AllocError>
+    ensures { IfOk result (λ found. IfSome found (λ it. IsToldOf (Link fault) bytes.now it.place it.defect)) }
 {
     let valid = match validated(alloc, bytes) {
         Ok(valid) => valid,
@@ -170,5 +174,9 @@ pub fn unlinked(alloc: Global, bytes: &[u8], fault: LinkFault) -> Result<Finding
         return Ok(None);
     };
     let reason = told.map(|told| Reason::words(of_link(fault)).with_told(told));
-    Ok(Some((place, reason)))
+    Ok(Some(Finding {
+        place,
+        defect: None,
+        reason,
+    }))
 }

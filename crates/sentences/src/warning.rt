@@ -180,3 +180,17 @@ pub fn warn_refused<E: Write>(loop_no: u32, refused: u64, err: &mut E) -> io::Re
         "warning: loop {loop_no}: {refused} {values} dropped: a callback may emit {MAX_EMITS}, and emit returns -28 for each further one"
     )
 }
+
+/// The least time that is negative as a number with a sign.
+const NEGATIVE: u64 = 1 << 63;
+
+/// Warns of a time that only a timer with a negative timeout or repeat can have led to.
+pub fn warn_clock<E: Write>(loop_no: u32, now: u64, err: &mut E) -> io::Result<()> {
+    if now < NEGATIVE {
+        return Ok(());
+    }
+    writeln!(
+        err,
+        "warning: loop {loop_no}: its time is {now} ms: a timer's timeout and repeat are unsigned, so that -1 is 2^64 - 1 ms"
+    )
+}

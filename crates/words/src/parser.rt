@@ -95,6 +95,16 @@ fn invoke(alloc: Global, matches: &ArgMatches<'_>) -> Result<Command, Refused> {
     }))
 }
 
+/// Why a word is not hexadecimal. The first character that is no digit tells more than how many there are.
+fn digits_fault(word: &str, fault: FromHexError) -> FromHexError {
+    for (index, c) in word.char_indices() {
+        if !c.is_ascii_hexdigit() {
+            return FromHexError::InvalidHexCharacter { c, index };
+        }
+    }
+    fault
+}
+
 /// The bytes that a word spells in hexadecimal.
 fn bytes(alloc: Global, word: &str) -> Result<Vec<u8>, Refused>
     ensures { IfOk result (λ bytes. vec_len bytes ≤ MAX_BYTES) }
@@ -103,7 +113,7 @@ fn bytes(alloc: Global, word: &str) -> Result<Vec<u8>, Refused>
         Ok(bytes) if bytes.len() <= MAX_BYTES => Ok(bytes),
         Ok(bytes) => Err(Refused::TooManyBytes(bytes.len())),
         Err(FromHexError::OutOfMemory) => Err(Refused::Memory),
-        Err(fault) => Err(Refused::Digits(fault)),
+        Err(fault) => Err(Refused::Digits(digits_fault(word, fault))),
     }
 }
 

@@ -12,4 +12,4 @@ returns c =
     let placed : BreaksAt c.in-Ok.module.contents c.in-Some.refused.fault c.in-Some.refused.site = rw c.in-Some.is at c.refused_at.ensures.placed in
     let broken : BreaksAt c.in-Ok.module.contents c.args.fault c.in-Some.refused.site =
     subst (λ fault. BreaksAt c.in-Ok.module.contents fault c.in-Some.refused.site) same placed in
-    (c.in-Ok.module.contents, spelled, c.in-Some.refused.site, broken, rw c.in-Some-place_of.is at c.place_of.ensures)
+    (c.in-Ok.module.contents, spelled, c.in-Some.refused.site, broken, rw c.in-Some-place_of.is at c.place_of.ensures, c.in_ok-defect.ensures)

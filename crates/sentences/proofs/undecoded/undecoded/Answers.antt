@@ -1,4 +1,4 @@
-use Rattle.std.proofs.Common.{rules, ◌≡◌, sym, subst}
+use Rattle.std.proofs.Common.{rules, ◌≡◌, refl, sym, subst}
 use denote.Enum.Bare.{differs_false}
 use Rattle.std.specs.Prelude.{◌≢◌}
 use Rattle.decode.specs.Modules.{SpellsNothing}
@@ -10,4 +10,4 @@ pub returns : goal.returns
 returns c =
     let same : c.in-Some.refused.fault ≡ c.args.fault = differs_false the_type (search rules) _ _ (sym c.if-ne.ensures) in
     let nothing : c.in-Some.refused.fault ≢ Memory → SpellsNothing c.args.bytes.now = rw c.in-Some.is at c.refused_at.ensures.refused in
-    (subst (λ fault. fault ≢ Memory → SpellsNothing c.args.bytes.now) same nothing, rw c.in-Some.is at c.refused_at.ensures.within)
+    (subst (λ fault. fault ≢ Memory → SpellsNothing c.args.bytes.now) same nothing, rw c.in-Some.is at c.refused_at.ensures.within, refl)

@@ -1,4 +1,4 @@
-use Rattle.std.proofs.Common.{subst}
+use Rattle.std.proofs.Common.{refl, subst}
 use Rattle.syntax.specs.Binary.{Spells}
 use Rattle.validate.specs.Valid.{ValidModule}
 use Rattle.imports.specs.Sites.{IsMisfit}
@@ -14,4 +14,4 @@ returns c =
     let found : IsPlaceOfMisfit c.args.bytes.now c.contents.result.now c.in-Some.site c.in-Some-place.place = rw c.in-Some-place.is at c.in_ok-place.ensures in
     let placed : IsPlaceOfMisfit c.args.bytes.now contents c.in-Some.site c.in-Some-place.place =
     subst (λ m. IsPlaceOfMisfit c.args.bytes.now m c.in-Some.site c.in-Some-place.place) c.contents.ensures.same found in
-    (contents, spelled, valid, c.in-Some.site, misfit, placed)
+    (contents, spelled, valid, c.in-Some.site, misfit, placed, refl)

@@ -48,6 +48,7 @@ pub data RosterStep (r u : Roster) : Type 0 where
 pub record RestMoves (s t : State) : Type 0 where
   pub list : t.list ≡ s.list
   pub phase : t.phase ≡ s.phase
+  pub status : t.status ≡ s.status
   pub roster : RosterStep s.roster t.roster
 
 -- a request may be opened in this slot, for so many bytes
@@ -146,7 +147,7 @@ module _ {S T : Type 0} (calls : Calls S) (other : Calls T) (g : Setting) (old :
   Kept s = (s.requests ≡ old.0.requests) × RestMoves old.0 s
 
   turned : {u : Roster} → RosterStep old.0.roster u → Kept (with_roster old.0 u)
-  turned step = (refl, record { list = refl; phase = refl; roster = step })
+  turned step = (refl, record { list = refl; phase = refl; status = refl; roster = step })
 
   same : Kept old.0
   same = turned (stays refl)
@@ -155,10 +156,10 @@ module _ {S T : Type 0} (calls : Calls S) (other : Calls T) (g : Setting) (old :
   emits value = chosen (nat_le MAX_EMITS (length old.0.emits)) where
     chosen : (b : Bool) → Kept (cond {A = ℕ × State} b (NONE_LEFT, old.0) (0, record old.0 { emits = old.0.emits ++ value ∷ [] })).1
     chosen true = same
-    chosen false = (refl, record { list = refl; phase = refl; roster = stays refl })
+    chosen false = (refl, record { list = refl; phase = refl; status = refl; roster = stays refl })
 
   worked : (requests : Requests) → new.0 ≡ with_requests old.0 requests → RestMoves old.0 new.0
-  worked requests e = subst (RestMoves old.0) (sym e) (record { list = refl; phase = refl; roster = stays refl })
+  worked requests e = subst (RestMoves old.0) (sym e) (record { list = refl; phase = refl; status = refl; roster = stays refl })
 
   plain : (f : Call) → is_queue_work f ≡ false → is_cancel_call f ≡ false → new.0.requests ≡ old.0.requests → IsBeside calls old.1 new.1 → Moves f
   plain f asks never e beside =

@@ -1,10 +1,11 @@
 -- A callback in slices is over.
-use Rattle.phases.proofs.Words.{ap, begun, calling, Calls, Ended, EntryKind, finished, GuestCall, Halt, Host, IfSome, IsLinked, IsStoreOf, KeepsLoop, Leads}
+use Rattle.phases.proofs.Words.{ap, begun, calling, Calls, Ended, EntryKind, false, finished, GuestCall, Halt, Host, IfNone, IfSome, IsLinked, IsStoreOf, KeepsLoop, Leads}
 use Rattle.phases.proofs.Words.{List, Loaded, Loop, LoopStopsAt, moves, Option, Ran, RunsFrom, scene, Setting, setting_of, State, Store, Value, ℕ, ◌≡◌}
 use Rattle.events.specs.Bare.{whole, whole_ending}
 use Rattle.events.specs.declared.ended.BareEnding.{BareEnding}
 use Rattle.events.specs.declared.ended.Ending.{Ending}
-use Rattle.phases.proofs.LoopsKeep.{same_setting, runs_from, kept_after}
+use Rattle.phases.specs.Outside.{is_failed}
+use Rattle.phases.proofs.LoopsKeep.{same_setting, runs_from, kept_after, unfailed_after}
 use Rattle.phases.proofs.StopsOfCallbacks.{stops_at}
 
 -- an ending without results, with its fuel
@@ -31,6 +32,9 @@ module _ {S : Type 0} (calls : Calls S) (loaded : Loaded) (g : Setting) (mid : L
     pub over_keeps : IsLinked loaded.contents → IsStoreOf loaded.contents store → KeepsLoop loaded (setting_of after.setting) last store
     over_keeps linked fits =
         kept_after calls set stands loaded g mid keeps before after made reply begins store function args ended stop leads linked fits last e
+
+    pub over_unfailed : is_failed mid.state.status ≡ false → IfNone stop (is_failed last.status ≡ false)
+    over_unfailed unfailed = unfailed_after calls set stands loaded g mid keeps before after made reply begins store function args ended stop leads unfailed last e
 
     pub over_runs : (kind : EntryKind) (number : ℕ)
         → (calls_made : List GuestCall) × RunsFrom calls g mid kind number function args reply (Ran kind number ended) calls_made

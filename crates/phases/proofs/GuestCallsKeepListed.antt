@@ -272,6 +272,12 @@ module _ {S : Type 0} (calls : Calls S) (g : Setting) where
       steps_keep (HostStep calls g) (λ trace x. Grows old.0 x.0) (λ call trace x y step was. grows_on old.0 x.0 y.0 was (call_grows x call y step.0 step.2))
       [] trace old new h (grows_refl old.0)
 
+  -- whether the loop goes on
+  pub trace_status : (trace : List HostCall) (old new : State × S) → Lawful (HostStep calls g) trace old new → new.0.status ≡ old.0.status
+  trace_status trace old new h =
+      steps_keep (HostStep calls g) (λ trace x. x.0.status ≡ old.0.status) (λ call trace x y step was. (call_rest calls g x call y step.0 step.2).status ∙ was)
+      [] trace old new h refl
+
   pub guest_grows : (made : List GuestCall) (old new : State × S) → GuestSteps calls g made old new → Grows old.0 new.0
   guest_grows made old new h =
       steps_keep (GuestStep calls g) (λ made x. Grows old.0 x.0) (λ c made x y step was. grows_on old.0 x.0 y.0 was (call_grows x c.call y c.function step.1))

@@ -1,10 +1,10 @@
 -- What a loop keeps as a callback runs, and as entries are taken off its list.
 use Rattle.phases.proofs.Words.{ap, AreOpenedUpTo, AreOrdersOf, AreReady, arith, begin_list, begun, Bool, callback_function, callback_in, callbacks_of, calling}
 use Rattle.phases.proofs.Words.{Calls, CancelIn, codes, Completion, completion_of, cond, Contents, drop, Ended, EntryKind, exports, ExportsFunction}
-use Rattle.phases.proofs.Words.{ExportsNothing, false, finished, first_list, Grows, GuestCall, Halt, handle_function, HasNoResults, HostStep, I32, IfSome}
+use Rattle.phases.proofs.Words.{ExportsNothing, false, finished, first_list, Grows, GuestCall, Failed, Halt, handle_function, HasNoResults, HostStep, I32, IfNone, IfSome}
 use Rattle.phases.proofs.Words.{import_types, in_table, inl, inr, is_alive, is_some, IsLawful, IsLinked, IsOrderOf, IsStoreOf, KeepsLoop, Lawful, Leads, List}
 use Rattle.phases.proofs.Words.{Loaded, Loop, map, MatchOption, MAX_DEPTH, may_end, Names, next_in, next_of, next_order_of, None, not, opening, opening_roster}
-use Rattle.phases.proofs.Words.{Option, option_and_then, option_map, option_map_or, Order, order_of, Over, Ran, Record, record_of, refl, Request, Requests}
+use Rattle.phases.proofs.Words.{Option, option_and_then, option_map, option_map_or, Order, order_of, Over, Ran, Record, record_of, refl, Request, RequestIn, Requests}
 use Rattle.phases.proofs.Words.{Roster, Running, RunsFrom, scene, Setting, slice_get, Some, State, Status, Store, subst, sym, TakesArguments, true, turn}
 use Rattle.phases.proofs.Words.{ValidModule, ValType, Value, with_requests, ℕ, [], ◌&&◌, ◌∙◌, ◌∷◌, ◌≡◌, ◌≤◌, ◌⊎◌}
 use Rattle.std.proofs.Common.{Result, Ok, Err, OnOk, IfErr}
@@ -13,12 +13,17 @@ use Rattle.syntax.specs.declared.contents.FuncType.{FuncType}
 use Rattle.syntax.specs.declared.types.ValType.TheVariants as valtype
 use Rattle.validate.specs.Typing.{type_of_function, type_of, HasFunctionType}
 use Rattle.handles.specs.Table.{empty_table}
+use Rattle.events.specs.declared.ended.Ending.{Ending}
+use Rattle.events.specs.declared.ended.Ending.TheVariants as ending
+use Rattle.reduction.specs.Stopping.{StopsAt}
+use Rattle.phases.specs.Outside.{is_failed}
+use Rattle.phases.specs.Step.{returns}
 use Rattle.instance.specs.Fresh.{fresh_store}
 use Rattle.order.proofs.FunctionTypes.{has_type}
 use Rattle.phases.specs.Host.{Cancels}
 use Rattle.phases.specs.Hosting.{Answered}
 use Rattle.phases.specs.Roster.{takes_one_number}
-use Rattle.phases.proofs.GuestCallsKeepListed.{grows_on, trace_grows}
+use Rattle.phases.proofs.GuestCallsKeepListed.{grows_on, trace_grows, trace_status}
 use Rattle.phases.proofs.PhaseListsAreReady.{ready_opening}
 use Rattle.phases.proofs.HostExports.{found_exports}
 use Rattle.phases.proofs.CancelFates.{moves_in, fate_in}
@@ -43,6 +48,10 @@ pub still_upto : {S : Type 0} (calls : Calls S) (shared : S) (old new : State) �
     → AreOpenedUpTo new.requests.last (calls.view shared)
 still_upto calls shared old new same upto = rw same upto
 
+-- a loop that goes on as before has not failed where it had not
+pub still_unfailed : (stop : Option Halt) (s u : Status) → u ≡ s → IfNone stop (is_failed s ≡ false) → IfNone stop (is_failed u ≡ false)
+still_unfailed stop s u same h = rw same h
+
 -- with another list
 pub kept_with : (l : Loaded) (g : Setting) (s u : State) (t : Store) → KeepsLoop l g s t → u.roster.callbacks ≡ s.roster.callbacks → AreReady g.loaded.contents u → AreOrdersOf g u.requests → KeepsLoop l g u t
 kept_with l g s u t keeps callbacks ready orders = record {
@@ -60,6 +69,17 @@ turn_leaves s = by_end (may_end s.phase && not (is_alive s)) refl where
   by_end : (b : Bool) → (may_end s.phase && not (is_alive s)) ≡ b → ((turn s).1.roster ≡ s.roster) × ((turn s).1.requests ≡ s.requests)
   by_end true e = rw e (refl, refl)
   by_end false e = rw e (refl, refl)
+
+-- nor does it fail
+pub turn_unfailed : (stop : Option Halt) (s : State) → IfNone stop (is_failed s.status ≡ false) → IfNone stop (is_failed (turn s).1.status ≡ false)
+turn_unfailed stop s h = by_end (may_end s.phase && not (is_alive s)) refl where
+  over : (o : Option Halt) → IfNone o (is_failed Over ≡ false)
+  over None = refl
+  over (Some halt) = tt
+
+  by_end : (b : Bool) → (may_end s.phase && not (is_alive s)) ≡ b → IfNone stop (is_failed (turn s).1.status ≡ false)
+  by_end true e = rw e (over stop)
+  by_end false e = rw e h
 
 -- the front of a list
 pub front_of : {X : Type 0} (xs : List X) (x : X) → slice_get xs 0 ≡ Some x → xs ≡ x ∷ drop 1 xs
@@ -173,6 +193,21 @@ module _ {G S : Type 0} (calls : Calls S) (setting : G → Setting) (standing : 
         },
       )
 
+  -- where it stopped nowhere, a loop that went on goes on
+  module _ (unfailed : is_failed old.state.status ≡ false) where
+    goes_on : is_failed (standing after).0.status ≡ false
+    goes_on = ap is_failed (trace_status calls g h.asked (begun old.state reply, old.shared) (standing after) answered) ∙ unfailed
+
+    by_ending : (end : Ending) → StopsAt l.contents g.depth old.store function args h.asked end ended.used t stop
+        → IfNone stop (is_failed (cond (returns end) (standing after).0.status Failed) ≡ false)
+    by_ending (ending.Return values) none = rw none goes_on
+    by_ending (ending.Trap trap) one = rw one.told tt
+    by_ending ending.Depth one = rw one.told tt
+    by_ending ending.Spent one = rw one.told tt
+
+    pub unfailed_after : (last : State) → last ≡ finished (standing after).0 ended → IfNone stop (is_failed last.status ≡ false)
+    unfailed_after last e = rw e (by_ending ended.ending h.stopped)
+
   pub kept_after : IsLinked l.contents → IsStoreOf l.contents t → (last : State) → last ≡ finished (standing after).0 ended → KeepsLoop l (setting after) last t
   kept_after linked fits last e =
       let u : State = (standing after).0 in
@@ -206,6 +241,26 @@ pub cancel_orders : {S : Type 0} (calls : Calls S) (g : Setting) (status : Statu
     → AreOrdersOf g old.0.requests → AreOrdersOf g new.0.requests
 cancel_orders calls g status old new number answer h =
     cancelled_orders g old.0.requests new.0.requests number answer (fate_in calls status old number answer new h)
+
+-- whether a loop goes on is no matter of its owner's
+pub next_status : (s : State) → (next_order_of s).1.status ≡ s.status
+next_status s = by_status s.status where
+  by_status : (status : Status) → (next_in status s).1.status ≡ s.status
+  by_status Failed = refl
+  by_status Running = refl
+  by_status Over = refl
+
+pub cancel_status : {S : Type 0} (calls : Calls S) (status : Status) (old new : State × S) (number answer : ℕ) → CancelIn calls status old number answer new
+    → new.0.status ≡ old.0.status
+cancel_status calls Failed old new number answer h = ap (λ p. p.0.status) h.1
+cancel_status calls Running old new number answer h = ap (λ s. s.status) h.2
+cancel_status calls Over old new number answer h = ap (λ s. s.status) h.2
+
+pub request_status : {S : Type 0} (calls : Calls S) (g : Setting) (status : Status) (old new : State × S) (op : ℕ) (bytes : List ℕ) (answer : ℕ)
+    → RequestIn calls g status old op bytes answer new → new.0.status ≡ old.0.status
+request_status calls g Running old new op bytes answer h = ap (λ s. s.status) h.2
+request_status calls g Over old new op bytes answer h = ap (λ p. p.0.status) h.1
+request_status calls g Failed old new op bytes answer h = ap (λ p. p.0.status) h.1
 
 -- what is exported is found
 pub not_missing : (d l : Loaded) (g : Setting) → d ≡ l → l ≡ g.loaded → (name : List ℕ) (o : Option ℕ) → MatchOption o (ExportsNothing d.contents name) (ExportsFunction d.contents name)

@@ -1,9 +1,10 @@
 -- What a step comes to before its callback runs.
 use Rattle.phases.proofs.Words.{Bool, Calls, Contents, Entry, EntryKind, EntryStep, false, GuestCall, HasNoResults, is_alive, List, Loop, may_end}
-use Rattle.phases.proofs.Words.{None, not, Prepared, Prepares, RanNone, refl, Setting, State, StepDid, subst, sym, TakesArguments, true, turn, Value}
+use Rattle.phases.proofs.Words.{None, not, Prepared, Prepares, RanNone, refl, Setting, State, Status, StepDid, subst, sym, TakesArguments, true, turn, Value}
 use Rattle.phases.proofs.Words.{ℕ, ◌&&◌, ◌≡◌}
-use Rattle.phases.specs.declared.callback.Prepared.TheVariants.{Runs}
-use Rattle.phases.specs.Inner.Preparing.{CanRunIn, LeavesFront}
+use Rattle.phases.specs.declared.callback.Prepared.TheVariants.{Did, Runs}
+use Rattle.phases.specs.Inner.Preparing.{CanRunIn, LeavesFront, RunsUnfailed}
+use Rattle.phases.specs.Outside.{is_failed}
 use Rattle.phases.specs.Step.{ListStep}
 
 -- a callback that may read nothing
@@ -20,6 +21,11 @@ turn_ran_none s = by_end (may_end s.phase && not (is_alive s)) refl where
   by_end : (b : Bool) → (may_end s.phase && not (is_alive s)) ≡ b → RanNone (turn s).0
   by_end true e = rw e tt
   by_end false e = rw e tt
+
+-- what may run on a loop that has not failed
+pub runs_unfailed : (p : Prepared) (s : Status) → is_failed s ≡ false → RunsUnfailed p s
+runs_unfailed (Did did) s h = tt
+runs_unfailed (Runs c) s h = h
 
 -- what an entry at the front does is what the step does
 module _ {S : Type 0} (calls : Calls S) (g : Setting) {m : Contents} {old mid : Loop S} {e : Entry} (h : LeavesFront m old e mid) where

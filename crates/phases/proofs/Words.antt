@@ -65,7 +65,7 @@ pub use Rattle.reduction.specs.Hosting.{Lawful, Names}
 pub use Rattle.reduction.specs.Invoking.{HasNoResults, TakesArguments}
 pub use Rattle.reduction.specs.Leading.{calling, Leads, scene}
 pub use Rattle.reduction.specs.Run.{HostCall}
-pub use Rattle.std.proofs.Common.{All, ap, append-nil, append_assoc, arith, Bool, codes, cond, drop, false, filter, get_or, IfSome, inl, inr, IsSomeAnd, length}
+pub use Rattle.std.proofs.Common.{All, ap, append-nil, append_assoc, arith, Bool, codes, cond, drop, false, filter, get_or, IfNone, IfSome, inl, inr, IsSomeAnd, length}
 pub use Rattle.std.proofs.Common.{List, map, MatchBool, MatchOption, None, not, Option, refl, set, Some, subst, suc, sym, take, true, zero, ℕ, [], ◌&&◌, ◌++◌}
 pub use Rattle.std.proofs.Common.{◌+◌, ◌-◌, ◌<◌, ◌==◌, ◌||◌, ◌∙◌, ◌∷◌, ◌≡◌, ◌≢◌, ◌≤◌, ◌⊎◌}
 pub use Rattle.std.proofs.Math.Dec.{eqb-suc-zero}

@@ -33,10 +33,10 @@ module _ {S : Type 0} (calls : Calls S) where
     pub most : used_by_step t ≤ used_by_step s + units
     pub all : UNIT_BYTES * (used_by_step s + units) + s.copied ≤ UNIT_BYTES * used_by_step t + t.copied
 
--- A step begins on a loop: where no callback runs it is over, and else nothing of that has run.
+-- A step begins on a loop: where no callback runs it is over, and else nothing of that has run, and nothing is copied.
 abbrev pub StepBegins : {S : Type 0} → Calls S → Core S → StepSlice S → Type 0
 StepBegins calls a (Over b did) = IsStepOf calls a did b × RanNone did
-StepBegins calls a (Paused s) = StepHasCome calls a s × (used_by_step s ≡ 0)
+StepBegins calls a (Paused s) = StepHasCome calls a s × (used_by_step s ≡ 0) × (s.copied ≡ 0)
 
 -- a step goes on for so many units
 abbrev pub StepGoesOn : {S : Type 0} → Calls S → StepInSlices S → (units : ℕ) → StepSlice S → Type 0

@@ -1,6 +1,6 @@
 //! One event loop.
 
-ghost use Rattle.std.specs.Prelude.{◌≡◌, ◌↔◌, ◌≤◌, List, false, codes, length, ◌<◌, IsTrue, IfOk, IfSome, option_map};
+ghost use Rattle.std.specs.Prelude.{◌≡◌, ◌↔◌, ◌≤◌, List, false, codes, length, ◌<◌, IsTrue, IfNone, IfOk, IfSome, option_map};
 ghost use Rattle.std.proofs.Props.{props};
 ghost use Rattle.std.specs.Arc.{arc_value};
 ghost use Rattle.std.specs.Int.{w32, cast_unsigned};
@@ -64,6 +64,7 @@ pub struct LoopCore<B: Shared + Drop> {
     pub(crate) stack: CallStack,
     pub(crate) host: LoopHost<B>,
     ghost stopped: { IfSome stack (λ sites. ∥ LoopStopsAt B.calls (setting_of host.setting) store sites ∥₁) } by { Prim.hlevel props },
+    ghost unfailed: { IfNone stack (is_failed host.state.status ≡ false) } by { Prim.hlevel props },
 }
 
 impl<B: Shared + Drop> Model for LoopCore<B> {
@@ -158,6 +159,7 @@ impl<B: Shared + Drop> LoopCore<B> {
     /// Each arm returns by itself, as in `BareDid::whole`.
     #[inline(always)]
     fn go_on(&mut self) -> BareDid
+        requires { is_failed self.old.loop.state.status ≡ false }
         ensures step { (made : List GuestCall) × ListStep B.calls self.old.setting self.old.loop self.old.loop.state.list (whole_did result) made self.new.loop }
         ensures setting { self.new.setting ≡ self.old.setting }
     {
@@ -171,7 +173,8 @@ impl<B: Shared + Drop> LoopCore<B> {
     }
 
     fn call(&mut self, callback: PreparedCallback) -> BareDid
-        requires { CanCallBack self.old.setting.loaded.contents callback }
+        requires fits { CanCallBack self.old.setting.loaded.contents callback }
+        requires unfailed { is_failed self.old.loop.state.status ≡ false }
         ensures run { (made : List GuestCall) × RunsCallback B.calls self.old.setting self.old.loop callback (whole_did result) made self.new.loop }
         ensures setting { self.new.setting ≡ self.old.setting }
     {
@@ -251,9 +254,10 @@ impl<B: Shared + Drop> LoopCore<B> {
         self.host.state.raise(ms)
     }
 
-    /// Where the last callback stopped, unless it returned: at which operation, and within which calls.
+    /// Where the last callback stopped, unless it returned: at which operation, and within which calls. A loop that has failed has a stop.
     pub fn last_stop(&self) -> Option<Stop<'_>>
-        ensures { IfSome result (λ sites. ∥ LoopStopsAt B.calls self.now.setting self.now.loop.store sites ∥₁) }
+        ensures some { IfSome result (λ sites. ∥ LoopStopsAt B.calls self.now.setting self.now.loop.store sites ∥₁) }
+        ensures none { IfNone result (is_failed self.now.loop.state.status ≡ false) }
     {
         self.stack.last_stop()
     }

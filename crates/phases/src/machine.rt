@@ -1,6 +1,6 @@
 // What a callback under way runs on.
 
-ghost use Rattle.std.specs.Prelude.{◌≡◌, ◌≤◌, ℕ, List, Option, length, None, IfSome};
+ghost use Rattle.std.specs.Prelude.{◌≡◌, ◌≤◌, false, ℕ, List, Option, length, None, IfSome};
 ghost use Rattle.std.specs.Arc.{arc_value};
 ghost use Rattle.limits.specs.declared.TheConstants.{MAX_DEPTH};
 ghost use Rattle.syntax.specs.declared.types.Value.{Value as Argument};
@@ -15,6 +15,7 @@ ghost use Rattle.reduction.specs.Invoking.{TakesArguments, ReturnsTyped};
 ghost use Rattle.phases.specs.Bare.{whole_did};
 ghost use Rattle.phases.specs.Guests.{GuestCall};
 ghost use Rattle.phases.specs.Inner.Ended.{CallbackHasEnded};
+ghost use Rattle.phases.specs.Outside.{is_failed};
 ghost use Rattle.phases.specs.State.{Setting, Loop};
 ghost use Rattle.phases.specs.Step.{RunsFrom};
 ghost use Rattle.phases.specs.Underway.{Host, moves};
@@ -113,7 +114,7 @@ impl<B: Shared + Drop> LoopMachine<B> {
         number: u32,
     ) -> (LoopCore<B>, BareDid)
         requires some { (g : Setting) × (mid : Loop B) × (function : ℕ) × (args : List Argument) × (reply : Option (List ℕ))
-            × CallbackHasEnded g mid function args reply (arc_value linked) self place }
+            × CallbackHasEnded g mid function args reply (arc_value linked) self place × (is_failed mid.state.status ≡ false) }
         requires bare { IsBare place.ending }
         requires room { MAX_DEPTH ≤ length self.machine.frames.items }
         requires shallow { IfSome self.machine.last (λ l. l.depth ≤ MAX_DEPTH) }

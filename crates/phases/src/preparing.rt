@@ -1,8 +1,9 @@
 // A step as far as it comes before its callback runs.
 
-ghost use Rattle.std.specs.Prelude.{◌≡◌, [], All, IfNone, IfSome, MatchBool};
+ghost use Rattle.std.specs.Prelude.{◌≡◌, [], false, All, IfNone, IfSome, MatchBool};
 ghost use Rattle.phases.specs.Bare.{whole_did};
-ghost use Rattle.phases.specs.Inner.Preparing.{Prepares, CanRunIn, LeavesFront};
+ghost use Rattle.phases.specs.Inner.Preparing.{Prepares, CanRunIn, LeavesFront, RunsUnfailed};
+ghost use Rattle.phases.specs.Outside.{is_failed};
 ghost use Rattle.phases.specs.Ready.{IsReady, Spares};
 ghost use Rattle.phases.specs.Step.{StepsWith, ListStep, NextPhase, EntryStep, CallsHandle, RanNone, Skips, is_as_listed};
 
@@ -21,6 +22,7 @@ impl<B: Shared + Drop> LoopCore<B> {
     pub(crate) fn prepare(&mut self) -> Prepared
         ensures step { Prepares B.calls self.old.setting (StepsWith B.calls self.old.setting self.old.loop) result self.new.loop }
         ensures fits { CanRunIn self.old.setting.loaded.contents result }
+        ensures unfailed { RunsUnfailed result self.new.loop.state.status }
         ensures setting { self.new.setting ≡ self.old.setting }
     {
         match self.host.state.status() {
@@ -31,8 +33,10 @@ impl<B: Shared + Drop> LoopCore<B> {
     }
 
     fn prepare_front(&mut self) -> Prepared
+        requires { is_failed self.old.loop.state.status ≡ false }
         ensures step { Prepares B.calls self.old.setting (ListStep B.calls self.old.setting self.old.loop self.old.loop.state.list) result self.new.loop }
         ensures fits { CanRunIn self.old.setting.loaded.contents result }
+        ensures unfailed { RunsUnfailed result self.new.loop.state.status }
         ensures setting { self.new.setting ≡ self.old.setting }
     {
         let Some(entry) = self.take_front() else {
@@ -47,6 +51,7 @@ impl<B: Shared + Drop> LoopCore<B> {
         ensures front { IfSome result (λ entry. LeavesFront self.old.setting.loaded.contents self.old.loop entry self.new.loop) }
         ensures none { IfNone result ((self.new.loop ≡ self.old.loop) × (self.old.loop.state.list ≡ [])) }
         ensures setting { self.new.setting ≡ self.old.setting }
+        ensures status { self.new.loop.state.status ≡ self.old.loop.state.status }
     {
         let Some(entry) = self.host.state.front() else {
             return None;
@@ -73,6 +78,7 @@ impl<B: Shared + Drop> LoopCore<B> {
         ensures step { Prepares B.calls self.old.setting (EntryStep B.calls self.old.setting self.old.loop entry) result self.new.loop }
         ensures fits { CanRunIn self.old.setting.loaded.contents result }
         ensures setting { self.new.setting ≡ self.old.setting }
+        ensures status { self.new.loop.state.status ≡ self.old.loop.state.status }
     {
         match entry {
             Entry::Start => return self.prepare_start(),
@@ -117,6 +123,7 @@ impl<B: Shared + Drop> LoopCore<B> {
         ensures step { Prepares B.calls self.old.setting (EntryStep B.calls self.old.setting self.old.loop (Entry.Timer handle start)) result self.new.loop }
         ensures fits { CanRunIn self.old.setting.loaded.contents result }
         ensures setting { self.new.setting ≡ self.old.setting }
+        ensures status { self.new.loop.state.status ≡ self.old.loop.state.status }
     {
         match self.host.state.fire(handle, start) {
             Some(function) => return Prepared::of_handle(EntryKind::Timer, handle, function),
@@ -143,6 +150,7 @@ impl<B: Shared + Drop> LoopCore<B> {
         ensures step { Prepares B.calls self.old.setting (EntryStep B.calls self.old.setting self.old.loop (Entry.After request)) result self.new.loop }
         ensures fits { CanRunIn self.old.setting.loaded.contents result }
         ensures setting { self.new.setting ≡ self.old.setting }
+        ensures status { self.new.loop.state.status ≡ self.old.loop.state.status }
     {
         let Some(function) = self.linked.entry(EntryPoint::AfterWork) else {
             unreachable!();
@@ -168,6 +176,7 @@ impl<B: Shared + Drop> LoopCore<B> {
         ensures step { Prepares B.calls self.old.setting (EntryStep B.calls self.old.setting self.old.loop (Entry.Async async_no)) result self.new.loop }
         ensures fits { CanRunIn self.old.setting.loaded.contents result }
         ensures setting { self.new.setting ≡ self.old.setting }
+        ensures status { self.new.loop.state.status ≡ self.old.loop.state.status }
     {
         let Some(handle) = self.host.state.async_at(async_no) else {
             unreachable!();
@@ -189,6 +198,7 @@ impl<B: Shared + Drop> LoopCore<B> {
         ensures step { Prepares B.calls self.old.setting (EntryStep B.calls self.old.setting self.old.loop (Entry.Close handle)) result self.new.loop }
         ensures fits { CanRunIn self.old.setting.loaded.contents result }
         ensures setting { self.new.setting ≡ self.old.setting }
+        ensures status { self.new.loop.state.status ≡ self.old.loop.state.status }
     {
         let function = self.host.state.finish_closing(handle);
         Prepared::of_handle(EntryKind::Close, handle, function)

@@ -1,10 +1,11 @@
 //! A step in slices.
 
-ghost use Rattle.std.specs.Prelude.{◌≡◌, ◌≤◌, List, IfOk, IfErr};
+ghost use Rattle.std.specs.Prelude.{◌≡◌, ◌≤◌, false, List, IfOk, IfErr};
 ghost use Rattle.events.specs.declared.did.StepDid.{StepDid as Did};
 ghost use Rattle.interp.specs.Machines.{MachineFits};
 ghost use Rattle.phases.specs.Guests.{GuestCall};
 ghost use Rattle.phases.specs.Inner.Preparing.{CanCallBack, RunsCallback};
+ghost use Rattle.phases.specs.Outside.{is_failed};
 ghost use Rattle.phases.specs.Slices.{StepBegins, StepGoesOn};
 ghost use Rattle.phases.specs.State.{Core, Loop};
 ghost use Rattle.phases.specs.Step.{StepsWith};
@@ -83,10 +84,12 @@ impl<B: Shared + Drop> LoopCore<B> {
     fn call_back(self, reserved: Machine, callback: PreparedCallback) -> Stepping<B>
         requires runs { MachineFits self.setting.loaded.contents reserved }
         requires fits { CanCallBack self.setting.loaded.contents callback }
+        requires unfailed { is_failed self.loop.state.status ≡ false }
         ensures come { (a : Core B) → a.setting ≡ self.setting
             → ((did : Did) (made : List GuestCall) (new : Loop B) → RunsCallback B.calls a.setting self.loop callback did made new → StepsWith B.calls a.setting a.loop did made new)
             → StepHasCome B.calls a result }
         ensures used { used_by_step result ≡ 0 }
+        ensures copied { result.copied ≡ 0 }
     {
         let (linked, store, host) = self.into_parts();
         let PreparedCallback {
@@ -99,6 +102,7 @@ impl<B: Shared + Drop> LoopCore<B> {
         imports_are_named(&linked);
         let mut host = host;
         host.state.begin_callback(reply);
+        host.copied = 0;
         let mut machine = LoopMachine {
             store,
             host,

@@ -116,6 +116,7 @@ impl LoopState {
         ensures fired { IfSome result (λ _. self.new ≡ with_roster self.old (with_handles self.old.roster (after_again self.old.roster.handles handle self.old.«now»))) }
         ensures skipped { IfNone result (self.new ≡ self.old) }
         ensures requests { self.new.requests ≡ self.old.requests }
+        ensures status { self.new.status ≡ self.old.status }
     {
         self.roster.fire(handle, start, self.time)
     }

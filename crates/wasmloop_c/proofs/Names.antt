@@ -5,7 +5,7 @@ pub use Rattle.phases.specs.State.{Core}
 pub use Rattle.phases.specs.declared.slices.StepSlice.{StepSlice}
 pub use Rattle.resident.specs.Calls.{ExportsNoFunction}
 pub use Rattle.std.proofs.Common.{ap, arith, Bool, drop, false, inl, inr, length, List, map, None, Option, refl, rules, Some, subst, sym, take, ℕ, [], ◌++◌}
-pub use Rattle.std.proofs.Common.{◌+◌, ◌-◌, ◌<◌, ◌==◌, ◌^◌, ◌∙◌, ◌∷◌, ◌≡◌, ◌≤◌, ◌⊎◌}
+pub use Rattle.std.proofs.Common.{◌*◌, ◌+◌, ◌-◌, ◌<◌, ◌==◌, ◌^◌, ◌∙◌, ◌∷◌, ◌≡◌, ◌≤◌, ◌⊎◌}
 pub use Rattle.std.proofs.alloc.Calls.{Al, handle_tells}
 pub use Rattle.std.proofs.raw_atomic.Walks.{leaves, proved_at}
 pub use Rattle.std.specs.contracts.impls.GlobalAllocator.TheImpl.{ghosts}

@@ -1,7 +1,8 @@
 -- The steps of a turn in slices, one after the other.
 use Rattle.wasmloop_c.proofs.Names.{ap, arith, Core, counted_on, Desk, desk_calls, Did, ends_turn, false, HeldLoop, inl, inr, length, List, LoopStage, NoneEnds}
 use Rattle.wasmloop_c.proofs.Names.{OK, one_if, RAN, ran_in, refl, SliceEnd, Some, StepBegins, StepGoesOn, StepIsTaken, StepSlice, StepsNumbered, subst, sym}
-use Rattle.wasmloop_c.proofs.Names.{TakesSteps, true, Turned, Turning, used_in, ℕ, [], ◌+◌, ◌<◌, ◌==◌, ◌∙◌, ◌∷◌, ◌≡◌, ◌≤◌, ◌⊎◌}
+use Rattle.wasmloop_c.proofs.Names.{None, TakesSteps, true, Turned, Turning, used_in, ℕ, [], ◌*◌, ◌+◌, ◌<◌, ◌==◌, ◌∙◌, ◌∷◌, ◌≡◌, ◌≤◌, ◌⊎◌}
+use Rattle.interp.specs.declared.paused.TheConstants.{UNIT_BYTES}
 use Rattle.events.specs.declared.did.StepDid.{StepDid}
 use Rattle.events.specs.declared.did.StepDid.TheVariants as step_did
 use Rattle.phases.specs.Step.{RanNone}
@@ -10,7 +11,7 @@ use Rattle.phases.specs.declared.slices.StepSlice.TheVariants as slice
 use Rattle.wasmloop_c.specs.Calls.{core_in}
 use Rattle.wasmloop_c.specs.Numbers.{did_of}
 use Rattle.wasmloop_c.specs.StepSlices.{LeftByStep, RunsStep, step_held}
-use Rattle.wasmloop_c.specs.TurnSlices.{LoopIsAt, SliceEnds, SliceGoesOn, StepIsUnderway, TakesSlices, TurnsStage, WaitsFor, counted_for, fuel_in, last_did, IsRefusal}
+use Rattle.wasmloop_c.specs.TurnSlices.{LoopIsAt, bytes_before, bytes_in, SliceEnds, SliceGoesOn, StepIsUnderway, TakesSlices, TurnsStage, WaitsFor, counted_for, fuel_in, last_did, IsRefusal}
 use Rattle.wasmloop_c.specs.Turning.{counted_after}
 use Rattle.wasmloop_c.specs.declared.step_slices.SliceEnd.TheVariants as end
 use Rattle.wasmloop_c.specs.declared.thing.LoopStage.TheVariants as stage
@@ -24,10 +25,11 @@ core_is (stage.Stepping held) d is = absurd cc
 core_is stage.Gone d is = absurd cc
 
 -- and where it is in one
-step_is : (left : LoopStage) (t : StepInSlices Desk) → step_held left ≡ Some t → (used_in left ≡ used_by_step t) × ((c : Core Desk) → StepHasCome desk_calls c t → LoopIsAt c left)
+step_is : (left : LoopStage) (t : StepInSlices Desk) → step_held left ≡ Some t
+    → (used_in left ≡ used_by_step t) × (bytes_in left ≡ t.copied) × ((c : Core Desk) → StepHasCome desk_calls c t → LoopIsAt c left)
 step_is (stage.Stepping held) t is =
     let same : held.step ≡ t = cc in
-    (ap (λ (s : StepInSlices Desk). used_by_step s) same, λ c come. subst (λ (s : StepInSlices Desk). StepHasCome desk_calls c s) (sym same) come)
+    (ap (λ (s : StepInSlices Desk). used_by_step s) same, ap (λ (s : StepInSlices Desk). s.copied) same, λ c come. subst (λ (s : StepInSlices Desk). StepHasCome desk_calls c s) (sym same) come)
 step_is (stage.Resting held) t is = absurd cc
 step_is stage.Gone t is = absurd cc
 
@@ -43,10 +45,11 @@ pub record Part (from : LoopStage) (units : ℕ) (left : LoopStage) : Type 0 whe
   pub stands : (c : Core Desk) → LoopIsAt c from → LoopIsAt c left
   pub some : used_in from < used_in left
   pub most : used_in left ≤ used_in from + units
+  pub all : UNIT_BYTES * (used_in from + units) + bytes_in from ≤ UNIT_BYTES * used_in left + bytes_in left
 
 -- What a slice of a step means that stands there after it has begun, where the step began on a loop that is there.
 module _ (from : LoopStage) (s : StepInSlices Desk) (units : ℕ) (left : LoopStage)
-    (came : (c : Core Desk) → LoopIsAt c from → StepHasCome desk_calls c s) (used : used_in from ≡ used_by_step s) where
+    (came : (c : Core Desk) → LoopIsAt c from → StepHasCome desk_calls c s) (used : used_in from ≡ used_by_step s) (copied : bytes_in from ≡ s.copied) where
   whole : (it : StepSlice Desk) (did : Did) → StepGoesOn desk_calls s units it → LeftByStep it left (end.Over did) → Whole from units left did
   whole (slice.Over d told) did goes (is, same) =
       let did_is : did ≡ did_of told (length d.loop.state.emits) = cc in
@@ -65,9 +68,10 @@ module _ (from : LoopStage) (s : StepInSlices Desk) (units : ℕ) (left : LoopSt
   part enough (slice.Paused t) goes (is, same) =
       let there = step_is left t is in
       record {
-        stands = λ c at. there.1 c (goes.goes_on c (came c at)).0;
+        stands = λ c at. there.2 c (goes.goes_on c (came c at)).0;
         some = grind (arith, used, goes.some, there.0, enough);
         most = omega (arith, used, goes.most, there.0);
+        all = omega (arith, used, copied, goes.all, there.0, there.1);
       }
 
 -- a step that is over at once has used nothing
@@ -95,9 +99,9 @@ over : (from : LoopStage) (units : ℕ) (left : LoopStage) (did : Did) → RunsS
 over (stage.Resting held) units left did (inl (slice.Over d told, it, begins, goes, lefts)) =
     at_once held d told units left did begins (subst (λ (x : StepSlice Desk). LeftByStep x left (end.Over did)) goes lefts)
 over (stage.Resting held) units left did (inl (slice.Paused s, it, begins, goes, lefts)) =
-    whole (stage.Resting held) s units left (λ c at. subst (λ (x : Core Desk). StepHasCome desk_calls x s) at begins.0) (sym begins.1) it did goes lefts
+    whole (stage.Resting held) s units left (λ c at. subst (λ (x : Core Desk). StepHasCome desk_calls x s) at begins.0) (sym begins.1.0) (sym begins.1.1) it did goes lefts
 over (stage.Resting held) units left did (inr (same, not)) = absurd cc
-over (stage.Stepping held) units left did (it, goes, lefts) = whole (stage.Stepping held) held.step units left (λ c at. at) refl it did goes lefts
+over (stage.Stepping held) units left did (it, goes, lefts) = whole (stage.Stepping held) held.step units left (λ c at. at) refl refl it did goes lefts
 over stage.Gone units left did (same, not) = absurd cc
 
 pub over_by : (from : LoopStage) (units : ℕ) (left : LoopStage) (it : SliceEnd) (did : Did) → it ≡ end.Over did → RunsStep from units left it → Whole from units left did
@@ -110,9 +114,9 @@ pub paused : (from : LoopStage) (units : ℕ) (left : LoopStage) → 1 ≤ units
 paused (stage.Resting held) units left enough (inl (slice.Over d told, it, begins, goes, lefts)) =
     absurd (at_end d told left (subst (λ (x : StepSlice Desk). LeftByStep x left end.Paused) goes lefts))
 paused (stage.Resting held) units left enough (inl (slice.Paused s, it, begins, goes, lefts)) =
-    part (stage.Resting held) s units left (λ c at. subst (λ (x : Core Desk). StepHasCome desk_calls x s) at begins.0) (sym begins.1) enough it goes lefts
+    part (stage.Resting held) s units left (λ c at. subst (λ (x : Core Desk). StepHasCome desk_calls x s) at begins.0) (sym begins.1.0) (sym begins.1.1) enough it goes lefts
 paused (stage.Resting held) units left enough (inr (same, not)) = absurd cc
-paused (stage.Stepping held) units left enough (it, goes, lefts) = part (stage.Stepping held) held.step units left (λ c at. at) refl enough it goes lefts
+paused (stage.Stepping held) units left enough (it, goes, lefts) = part (stage.Stepping held) held.step units left (λ c at. at) refl refl enough it goes lefts
 paused stage.Gone units left enough (same, not) = absurd cc
 
 -- no slice
@@ -143,6 +147,7 @@ module _ (from : LoopStage) (most units : ℕ) (old : Did) where
     pub counted : turn.ran ≡ ran_in before
     pub fuel : fuel_in before + (turn.left + used_in turn.stage) ≡ used_in from + units
     pub many : length before ≡ count
+    pub rests : (before ≡ [] → ⊥) → core_in turn.stage ≡ Some e
 
   pub record Sliced (count : ℕ) (turn : Turning) (did : Did) : Type 0 where
     pub less : turn.ran < most
@@ -166,6 +171,7 @@ module _ (from : LoopStage) (most units : ℕ) (old : Did) where
       counted = refl;
       fuel = omega arith;
       many = refl;
+      rests = λ some. absurd (some refl);
     };
   }
 
@@ -198,6 +204,7 @@ module _ (from : LoopStage) (most units : ℕ) (old : Did) where
         counted = ran;
         fuel = fuel;
         many = omega (arith, here.many);
+        rests = λ some. next.1;
       }
 
       ended : ends_turn most turn.ran did ≡ true → SliceEnds c (used_in from) units most did to.ran to.stage
@@ -229,7 +236,7 @@ module _ (from : LoopStage) (most units : ℕ) (old : Did) where
 
   -- a turn that pauses between two steps, of which some are taken
   between : (c : Core Desk) (count : ℕ) (turn : Turning) (did : Did) → Path c count turn did → (count ≡ 0 → ⊥)
-      → SliceGoesOn c (used_in from) units most old did turn.ran turn.stage
+      → SliceGoesOn c from units most old did turn.ran turn.stage
   between c count turn did p later = record {
     before = p.before;
     e = p.e;
@@ -241,11 +248,12 @@ module _ (from : LoopStage) (most units : ℕ) (old : Did) where
     counted = p.counted;
     within = omega (arith, p.fuel);
     some = inl (λ none. later (sym p.many ∙ ap (λ (xs : List Did). length xs) none));
+    all = λ none. let rests = p.rests (λ empty. later (sym p.many ∙ ap (λ (xs : List Did). length xs) empty)) in absurd cc;
   }
 
   module _ (count : ℕ) (turn to : Turning) (was did : Did) (s : Sliced count turn was) where
     paused_after : StepIsTaken turn did to → ends_turn most turn.ran did ≡ false → (c : Core Desk) → LoopIsAt c from
-        → SliceGoesOn c (used_in from) units most old did to.ran to.stage
+        → SliceGoesOn c from units most old did to.ran to.stage
     paused_after taken goes_on c at =
         let p = s.path c at in
         let one = taken.steps p.e p.stands in
@@ -260,6 +268,7 @@ module _ (from : LoopStage) (most units : ℕ) (old : Did) where
           counted = taken.ran ∙ ap (λ (n : ℕ). n + one_if (did.what == RAN)) p.counted;
           within = omega (arith, taken.left, taken.rests, p.fuel);
           some = inl (λ none. absurd cc);
+          all = λ none. let rests = one.1 in absurd cc;
         }
 
     some_used : (before : List Did) → length before ≡ count → StepIsUnderway turn to → (before ≡ [] → ⊥) ⊎ (used_in from < used_in to.stage)
@@ -268,8 +277,16 @@ module _ (from : LoopStage) (most units : ℕ) (old : Did) where
         inr (subst (λ (it : LoopStage). used_in it < used_in to.stage) first.0 under.some)
     some_used (x ∷ xs) many under = inl (λ none. absurd cc)
 
+    all_used : (before : List Did) → length before ≡ count → StepIsUnderway turn to → fuel_in before + (turn.left + used_in turn.stage) ≡ used_in from + units
+        → UNIT_BYTES * (used_in from + units) + bytes_before from before ≤ UNIT_BYTES * (fuel_in before + used_in to.stage) + bytes_in to.stage
+    all_used [] many under fuel =
+        let first = s.first (sym many) in
+        let same : bytes_in turn.stage ≡ bytes_in from = ap bytes_in first.0 in
+        omega (arith, under.all, same, fuel)
+    all_used (x ∷ xs) many under fuel = omega (arith, under.all, fuel)
+
     paused_in : StepIsUnderway turn to → did ≡ was → (c : Core Desk) → LoopIsAt c from
-        → SliceGoesOn c (used_in from) units most old did to.ran to.stage
+        → SliceGoesOn c from units most old did to.ran to.stage
     paused_in under same c at =
         let p = s.path c at in
         record {
@@ -283,23 +300,24 @@ module _ (from : LoopStage) (most units : ℕ) (old : Did) where
           counted = under.ran ∙ p.counted;
           within = omega (arith, p.fuel, under.most);
           some = some_used p.before p.many under;
+          all = λ none. all_used p.before p.many under p.fuel;
         }
 
     pub pauses : (StepIsTaken turn did to × (ends_turn most turn.ran did ≡ false)) ⊎ (StepIsUnderway turn to × (did ≡ was))
-        → (c : Core Desk) → LoopIsAt c from → SliceGoesOn c (used_in from) units most old did to.ran to.stage
+        → (c : Core Desk) → LoopIsAt c from → SliceGoesOn c from units most old did to.ran to.stage
     pauses (inl h) = paused_after h.0 h.1
     pauses (inr h) = paused_in h.0 h.1
 
   -- memory was refused after some steps, or there were too many of them
   pub stays : (count : ℕ) (turn : Turning) (did : Did) → Sliced count turn did → (count ≡ 0 → ⊥) → (c : Core Desk) → LoopIsAt c from
-      → SliceGoesOn c (used_in from) units most old did turn.ran turn.stage
+      → SliceGoesOn c from units most old did turn.ran turn.stage
   stays count turn did s later c at = between c count turn did (s.path c at) later
 
   pub stays_so : (count : ℕ) (turn to : Turning) (was did : Did) → Sliced count turn was → (count ≡ 0 → ⊥) → to ≡ turn → did ≡ was → (c : Core Desk) → LoopIsAt c from
-      → SliceGoesOn c (used_in from) units most old did to.ran to.stage
+      → SliceGoesOn c from units most old did to.ran to.stage
   stays_so count turn to was did s later same is c at =
-      subst (λ (x : Turning). SliceGoesOn c (used_in from) units most old did x.ran x.stage) (sym same)
-      (subst (λ (x : Did). SliceGoesOn c (used_in from) units most old x turn.ran turn.stage) (sym is) (stays count turn was s later c at))
+      subst (λ (x : Turning). SliceGoesOn c from units most old did x.ran x.stage) (sym same)
+      (subst (λ (x : Did). SliceGoesOn c from units most old x turn.ran turn.stage) (sym is) (stays count turn was s later c at))
 
 -- What a step does to a turn.
 pub taken : (from to : Turning) (did : Did) → Whole from.stage from.left to.stage did → to.ran ≡ from.ran + one_if (did.what == RAN)
@@ -307,7 +325,7 @@ pub taken : (from to : Turning) (did : Did) → Whole from.stage from.left to.st
 taken from to did w ran left = record { steps = w.steps; ran = ran; left = left; rests = w.rests }
 
 pub under_way : (from to : Turning) → Part from.stage from.left to.stage → to.ran ≡ from.ran → StepIsUnderway from to
-under_way from to p ran = record { stands = p.stands; ran = ran; some = p.some; most = p.most }
+under_way from to p ran = record { stands = p.stands; ran = ran; some = p.some; most = p.most; all = p.all }
 
 pub may_go_on : (did : Did) (most ran : ℕ) → ran < most → ends_turn most ran did ≡ false → ran + one_if (did.what == RAN) < most
 may_go_on did most ran less goes_on = one_more_may (did.what == RAN) _ _ _ most ran less goes_on

@@ -28,11 +28,11 @@ BeginsNamed a name numbers limits c =
     (function : ℕ) × (args : List Value) × TakesNumbers a (ExportsFirst a.loaded.contents name) numbers function args
     × HasCome a limits.depth limits.fuel function args c × (used_by c ≡ 0)
 
--- A call by name begins. Where it doesn't, nothing changes.
+-- A call by name begins. Where it doesn't, nothing changes. (It always takes memory.)
 abbrev pub BeginsStage : (old new : InstanceStage) → (name numbers : List ℕ) → CallLimits → (status : ℕ) → Type 0
 BeginsStage (stage.Resident a) new name numbers limits status =
     ((status ≡ OK) × IsSomeAnd (calling_in new) (BeginsNamed a name numbers limits))
-    ⊎ (IsNoCall a (ExportsNoFunction a.loaded.contents name) (ExportsFirst a.loaded.contents name) numbers status × (new ≡ stage.Resident a))
+    ⊎ (IsNoCall a (ExportsNoFunction a.loaded.contents name) (ExportsFirst a.loaded.contents name) (Unit {0}) numbers status × (new ≡ stage.Resident a))
 BeginsStage other new name numbers limits status = (status ≡ KIND) × (new ≡ other)
 
 abbrev pub BeginsCall : (old new : Thing) → (name numbers : List ℕ) → CallLimits → (status : ℕ) → Type 0

@@ -7,7 +7,7 @@ use Rattle.resident.specs.Numbered.{ExportsAt, ExportsNoFunctionAt}
 use Rattle.resident.specs.declared.calling.Going.{Going}
 use Rattle.wasmloop_c.specs.Calls.{OnHandle}
 use Rattle.wasmloop_c.specs.CallSlices.{LeftByCall}
-use Rattle.wasmloop_c.specs.Instances.{TakesNumbers, IsNoCall, OnInstance}
+use Rattle.wasmloop_c.specs.Instances.{TakesNumbers, TakesMemory, IsNoCall, OnInstance}
 use Rattle.wasmloop_c.specs.declared.ended.CallEnded.{CallEnded}
 use Rattle.wasmloop_c.specs.declared.instances.CallLimits.{CallLimits}
 use Rattle.wasmloop_c.specs.declared.status.TheConstants.{OK, KIND}
@@ -27,7 +27,7 @@ CallsForStage (stage.Resident a) new number numbers limits units was over before
     ((status ≡ OK)
     × ((function : ℕ) × (args : List Value) × TakesNumbers a (ExportsAt a.loaded.contents number) numbers function args
     × SlicesFirst a limits function args units new over before told))
-    ⊎ (IsNoCall a (ExportsNoFunctionAt a.loaded.contents number) (ExportsAt a.loaded.contents number) numbers status
+    ⊎ (IsNoCall a (ExportsNoFunctionAt a.loaded.contents number) (ExportsAt a.loaded.contents number) (TakesMemory a (ExportsAt a.loaded.contents number)) numbers status
     × (new ≡ stage.Resident a) × (over ≡ was) × (told ≡ before))
 CallsForStage other new number numbers limits units was over before told status = (status ≡ KIND) × (new ≡ other) × (over ≡ was) × (told ≡ before)
 

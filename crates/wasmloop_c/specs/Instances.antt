@@ -1,5 +1,5 @@
 -- What each call does to the instance that its handle has.
-use Rattle.std.specs.Prelude.{◌≡◌, ◌⊎◌, ℕ, Bool, List, Option, Some, None, MatchOption, IsSomeAnd, if◌then◌else◌}
+use Rattle.std.specs.Prelude.{◌≡◌, ◌<◌, ◌⊎◌, ℕ, Bool, List, length, Option, Some, None, MatchOption, IsSomeAnd, if◌then◌else◌}
 use Rattle.syntax.specs.Loaded.{Loaded}
 use Rattle.syntax.specs.declared.contents.Contents.{Contents}
 use Rattle.syntax.specs.declared.contents.FuncType.{FuncType}
@@ -14,6 +14,7 @@ use Rattle.wasmloop_c.specs.Calls.{OnHandle, module_of}
 use Rattle.wasmloop_c.specs.Values.{values_of, call_numbers}
 use Rattle.wasmloop_c.specs.declared.ended.CallEnded.{CallEnded}
 use Rattle.wasmloop_c.specs.declared.instances.CallLimits.{CallLimits}
+use Rattle.wasmloop_c.specs.declared.instances.TheConstants.{FEW}
 use Rattle.wasmloop_c.specs.declared.status.TheConstants.{OK, NONE, KIND, MEMORY, RANGE, ARGUMENTS}
 use Rattle.wasmloop_c.specs.declared.thing.Thing.{Thing}
 use Rattle.wasmloop_c.specs.declared.thing.Thing.TheVariants as thing
@@ -87,18 +88,26 @@ pub record TakesOthers (a : KeptInstance) (IsMeant : ℕ → Type 0) (numbers : 
   pub typed : HasFunctionType a.loaded.contents function type
   pub others : values_of type.params numbers ≡ None
 
+-- one that is meant takes more than FEW arguments or has more than one result: the call of any other takes no memory
+pub record TakesMemory (a : KeptInstance) (IsMeant : ℕ → Type 0) : Type 0 where
+  pub function : ℕ
+  pub type : FuncType
+  pub meant : IsMeant function
+  pub typed : HasFunctionType a.loaded.contents function type
+  pub many : (FEW < length type.params) ⊎ (1 < length type.results)
+
 -- why there is no such call: no function is meant, or it takes other numbers, or no memory
-abbrev pub IsNoCall : KeptInstance → (IsNone : Type 0) → (IsMeant : ℕ → Type 0) → (numbers : List ℕ) → (status : ℕ) → Type 0
-IsNoCall a IsNone IsMeant numbers status =
+abbrev pub IsNoCall : KeptInstance → (IsNone : Type 0) → (IsMeant : ℕ → Type 0) → (Takes : Type 0) → (numbers : List ℕ) → (status : ℕ) → Type 0
+IsNoCall a IsNone IsMeant Takes numbers status =
     ((status ≡ NONE) × IsNone)
     ⊎ ((status ≡ ARGUMENTS) × TakesOthers a IsMeant numbers)
-    ⊎ (status ≡ MEMORY)
+    ⊎ ((status ≡ MEMORY) × Takes)
 
 -- A call of a function that is meant. Where it is not made, nothing changes.
 abbrev pub MakesCall : KeptInstance → (IsNone : Type 0) → (IsMeant : ℕ → Type 0) → (numbers : List ℕ) → CallLimits → (old told : CallEnded) → (status : ℕ) → KeptInstance → Type 0
 MakesCall a IsNone IsMeant numbers limits old told status b =
     ((status ≡ OK) × ((ended : Ended) × CallsMeant a IsMeant numbers limits ended b × (told ≡ call_numbers ended)))
-    ⊎ (IsNoCall a IsNone IsMeant numbers status × (b ≡ a) × (told ≡ old))
+    ⊎ (IsNoCall a IsNone IsMeant (TakesMemory a IsMeant) numbers status × (b ≡ a) × (told ≡ old))
 
 -- a call by name
 abbrev pub CallsBy : KeptInstance → (name numbers : List ℕ) → CallLimits → (old told : CallEnded) → (status : ℕ) → KeptInstance → Type 0

@@ -1,5 +1,5 @@
 -- What is reported of where a loop's last callback stopped, or a job, or an instance's last call.
-use Rattle.std.specs.Prelude.{◌≡◌, ◌⊎◌, ◌+◌, ◌<◌, ℕ, List, length, slice_get, slice_range, Option, Some, None}
+use Rattle.std.specs.Prelude.{◌≡◌, ◌⊎◌, ◌+◌, ◌<◌, ℕ, false, List, length, slice_get, slice_range, Option, Some, None}
 use Rattle.std.specs.Arc.{arc_value}
 use Rattle.std.specs.Option.{option_map}
 use Rattle.instance.specs.declared.stack.Site.{Site as Operation}
@@ -8,8 +8,10 @@ use Rattle.instance.specs.Store.{Store}
 use Rattle.order.specs.Trails.{Innermost}
 use Rattle.order.specs.Slices.{OrderStandsAt}
 use Rattle.resident.specs.Slices.{CallStandsAt}
+use Rattle.phases.specs.Outside.{is_failed}
 use Rattle.phases.specs.State.{Setting}
 use Rattle.phases.specs.Stopping.{LoopStopsAt}
+use Rattle.phases.specs.declared.entry.Status.{Status}
 use Rattle.places.specs.Places.{IsNumberOf}
 use Rattle.places.specs.Spans.{CodeAt}
 use Rattle.places.specs.Spots.{IsSpot, IsUnspelled}
@@ -37,10 +39,10 @@ abbrev pub told_of : StopPlace → Innermost
 told_of (place.Callback stop) = whole_trail stop
 told_of (place.Job trail) = trail.now
 
--- where a callback of a loop of this setting stopped that left this store, and all the calls around it
-abbrev pub IsStopOf : Setting → Store → Option Innermost → Type 0
-IsStopOf g store None = Unit {0}
-IsStopOf g store (Some stop) =
+-- where a callback of a loop of this setting stopped that left this store, and all the calls around it; nothing only if the loop has not failed
+abbrev pub IsStopOf : Setting → Status → Store → Option Innermost → Type 0
+IsStopOf g status store None = is_failed status ≡ false
+IsStopOf g status store (Some stop) =
     (stop.calls ≡ length stop.sites) × ∥ LoopStopsAt desk_calls g store (record { sites = stop.sites; address = stop.address }) ∥₁
 
 -- where something stopped, unless it returned or nothing of it has run, and its module's bytes; or nothing where it is of another kind
@@ -63,7 +65,7 @@ CallStopsAs instance.Gone found = found ≡ None
 -- where a loop's last callback stopped, between two steps
 abbrev pub LoopStopsAs : LoopStage → FoundStop → Type 0
 LoopStopsAs (loop.Resting held) found =
-    (stop : Option Innermost) × IsStopOf held.core.setting held.core.loop.store stop × (found ≡ Some (stop, held.core.setting.loaded.bytes))
+    (stop : Option Innermost) × IsStopOf held.core.setting held.core.loop.state.status held.core.loop.store stop × (found ≡ Some (stop, held.core.setting.loaded.bytes))
 LoopStopsAs _ found = found ≡ None
 
 -- where a loop's last callback or an instance's last call stopped, all of it, or where a job did

@@ -1,5 +1,6 @@
 -- What a slice does to a turn of the loop that its handle has.
-use Rattle.std.specs.Prelude.{◌≡◌, ◌⊎◌, ◌≤◌, ◌<◌, ◌+◌, ◌-◌, ◌^◌, ◌==◌, min, ℕ, true, false, List, [], ◌∷◌, Option, Some, if◌then◌else◌}
+use Rattle.std.specs.Prelude.{◌≡◌, ◌⊎◌, ◌≤◌, ◌<◌, ◌+◌, ◌-◌, ◌*◌, ◌^◌, ◌==◌, min, ℕ, true, false, List, [], ◌∷◌, Option, Some, None, if◌then◌else◌}
+use Rattle.interp.specs.declared.paused.TheConstants.{UNIT_BYTES}
 use Rattle.desk.specs.Desk.{Desk, desk_calls}
 use Rattle.phases.specs.State.{Core}
 use Rattle.phases.specs.Underway.{StepHasCome, used_by_step}
@@ -28,6 +29,11 @@ abbrev pub used_in : LoopStage → ℕ
 used_in (stage.Stepping held) = used_by_step held.step
 used_in _ = 0
 
+-- the bytes that the calls of its callback under way have copied
+abbrev pub bytes_in : LoopStage → ℕ
+bytes_in (stage.Stepping held) = held.step.copied
+bytes_in _ = 0
+
 -- the units that the callbacks of these steps used
 abbrev pub fuel_in : List Did → ℕ
 fuel_in [] = 0
@@ -47,9 +53,15 @@ pub record SliceEnds (c : Core Desk) (from units most : ℕ) (did : Did) (ran : 
   pub steps : TurnSteps c d most did ran
   pub within : fuel_in (did ∷ steps.before) ≤ from + units
 
+-- the bytes that were copied before a call in a callback that it leaves under way after these steps
+abbrev pub bytes_before : LoopStage → List Did → ℕ
+bytes_before from [] = bytes_in from
+bytes_before from (did ∷ before) = 0
+
 -- One that doesn't: none of its whole steps ends the turn, and the loop stands where they have come to, in its next step or before it. It has
--- taken a step, or its callback has used some units.
-pub record SliceGoesOn (c : Core Desk) (from units most : ℕ) (old did : Did) (ran : ℕ) (left : LoopStage) : Type 0 where
+-- taken a step, or its callback has used some units. Where it stands in a step, all its units are used, where each UNIT_BYTES that the callback
+-- has copied in it count as one.
+pub record SliceGoesOn (c : Core Desk) (from : LoopStage) (units most : ℕ) (old did : Did) (ran : ℕ) (left : LoopStage) : Type 0 where
   pub before : List Did
   pub e : Core Desk
   pub steps : TakesSteps c before e
@@ -58,8 +70,10 @@ pub record SliceGoesOn (c : Core Desk) (from units most : ℕ) (old did : Did) (
   pub setting : e.setting ≡ c.setting
   pub last : did ≡ last_did old before
   pub counted : ran ≡ ran_in before
-  pub within : fuel_in before + used_in left ≤ from + units
-  pub some : (before ≡ [] → ⊥) ⊎ (from < used_in left)
+  pub within : fuel_in before + used_in left ≤ used_in from + units
+  pub some : (before ≡ [] → ⊥) ⊎ (used_in from < used_in left)
+  pub all : core_in left ≡ None
+      → UNIT_BYTES * (used_in from + units) + bytes_before from before ≤ UNIT_BYTES * (fuel_in before + used_in left) + bytes_in left
 
 -- why nothing is done: no memory was found for a step that has not begun, or there is no loop. A step that is under way is never refused.
 abbrev pub IsRefusal : LoopStage → (status : ℕ) → Type 0
@@ -74,12 +88,13 @@ pub record StepIsTaken (from : Turning) (did : Did) (to : Turning) : Type 0 wher
   pub left : did.used + to.left ≡ used_in from.stage + from.left
   pub rests : used_in to.stage ≡ 0
 
--- A step is under way, or another slice of it: its callback has used some units more.
+-- A step is under way, or another slice of it: its callback has used some units more, and all where the bytes that it copied count too.
 pub record StepIsUnderway (from to : Turning) : Type 0 where
   pub stands : (c : Core Desk) → LoopIsAt c from.stage → LoopIsAt c to.stage
   pub ran : to.ran ≡ from.ran
   pub some : used_in from.stage < used_in to.stage
   pub most : used_in to.stage ≤ used_in from.stage + from.left
+  pub all : UNIT_BYTES * (used_in from.stage + from.left) + bytes_in from.stage ≤ UNIT_BYTES * used_in to.stage + bytes_in to.stage
 
 -- what a slice of a step does to a turn of at most so many callbacks
 abbrev pub TakesSlice : Turning → (most : ℕ) → (old did : Did) → Turning → TurnFlow → Type 0
@@ -94,7 +109,7 @@ TakesSlice from most old did to (flow.Refused status) = (to ≡ from) × (did �
 abbrev pub TakesSlices : LoopStage → (most units : ℕ) → (old did : Did) → TurnLeft → Type 0
 TakesSlices from most units old did it =
     ((it.status ≡ OK) × (it.over ≡ 1) × ((c : Core Desk) → LoopIsAt c from → SliceEnds c (used_in from) units most did it.ran it.stage))
-    ⊎ ((it.status ≡ OK) × (it.over ≡ 0) × ((c : Core Desk) → LoopIsAt c from → SliceGoesOn c (used_in from) units most old did it.ran it.stage))
+    ⊎ ((it.status ≡ OK) × (it.over ≡ 0) × ((c : Core Desk) → LoopIsAt c from → SliceGoesOn c from units most old did it.ran it.stage))
     ⊎ (IsRefusal from it.status × (it.stage ≡ from) × (did ≡ old))
 
 -- how long there is nothing to do: not at all while the turn isn't over
@@ -121,7 +136,7 @@ pub record TurnEnds (c : Core Desk) (from units most before after : ℕ) (told :
   pub zero : told.zero ≡ 0
 
 -- (where no step is over, the last one is not told anew)
-pub record TurnGoesOn (c : Core Desk) (from units most before after : ℕ) (was told : Turned) (left : LoopStage) : Type 0 where
+pub record TurnGoesOn (c : Core Desk) (from : LoopStage) (units most before after : ℕ) (was told : Turned) (left : LoopStage) : Type 0 where
   pub ran : ℕ
   pub slice : SliceGoesOn c from units most was.did told.did ran left
   pub callbacks : told.callbacks ≡ counted_on before ran
@@ -133,7 +148,7 @@ pub record TurnGoesOn (c : Core Desk) (from units most before after : ℕ) (was 
 abbrev pub TurnsStage : (from : LoopStage) → (before : ℕ) → (left : LoopStage) → (after most units was_over over : ℕ) → (was told : Turned) → (status : ℕ) → Type 0
 TurnsStage from before left after most units was_over over was told status =
     ((status ≡ OK) × (over ≡ 1) × ((c : Core Desk) → LoopIsAt c from → TurnEnds c (used_in from) units most before after told left))
-    ⊎ ((status ≡ OK) × (over ≡ 0) × ((c : Core Desk) → LoopIsAt c from → TurnGoesOn c (used_in from) units most before after was told left))
+    ⊎ ((status ≡ OK) × (over ≡ 0) × ((c : Core Desk) → LoopIsAt c from → TurnGoesOn c from units most before after was told left))
     ⊎ (IsRefusal from status × (left ≡ from) × (after ≡ before) × (over ≡ was_over) × (told ≡ was))
 
 abbrev pub TurnsFor : (old new : Thing) → (most units was over : ℕ) → (before told : Turned) → (status : ℕ) → Type 0

@@ -59,6 +59,15 @@ pub fn lay(types: &[ValType], numbers: &[u64], room: &mut [Value]) -> bool
     true
 }
 
+/// Whether there are as many numbers as types.
+#[tactic(auto, using(crate::proofs::ValuesRead::as_many))]
+pub fn are_as_many(types: &[ValType], numbers: &[u64]) -> bool
+    ensures many { result ≡ true → length numbers.now ≡ length types.now }
+    ensures others { result ≡ false → values_of types.now numbers.now ≡ None }
+{
+    types.len() == numbers.len()
+}
+
 /// The values of these types that the numbers are, where each is one of its type.
 pub fn values(
     alloc: Global,

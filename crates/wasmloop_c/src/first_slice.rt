@@ -10,7 +10,7 @@ ghost use Rattle.wasmloop_c.specs.declared.thing.InstanceStage.TheVariants as st
 
 use crate::call_slices::{left_by, left_in};
 use crate::checked::CheckedLimits;
-use crate::ended::{CallEnded, lay};
+use crate::ended::{CallEnded, are_as_many, lay};
 use crate::handle::{Handle, on};
 use crate::instances::{CallLimits, FEW, arguments};
 use crate::status::{ARGUMENTS, KIND, NONE, OK, RANGE};
@@ -77,7 +77,10 @@ fn call_for_on(
     };
     let types = func_type.params.as_slice();
     let count = func_type.results.len();
-    if types.len() > FEW || numbers.len() != types.len() || count > 1 {
+    if !are_as_many(types, numbers) {
+        return (InstanceStage::Resident(resident), ARGUMENTS);
+    }
+    if types.len() > FEW || count > 1 {
         let args = match arguments(alloc, types, numbers) {
             Ok(args) => args,
             Err(status) => return (InstanceStage::Resident(resident), status),

@@ -13,7 +13,7 @@ ghost use Rattle.wasmloop_c.specs.Instances.{OnResident, OnStage, OnHeldResident
 ghost use Rattle.wasmloop_c.specs.Values.{values_of, call_numbers};
 
 use crate::checked::CheckedLimits;
-use crate::ended::{CallEnded, lay, values};
+use crate::ended::{CallEnded, are_as_many, lay, values};
 use crate::handle::{Handle, on};
 use crate::status::{ARGUMENTS, KIND, MEMORY, NONE, NOT_STARTED, OK, RANGE};
 use crate::thing::{InstanceStage, Room, Thing, instance_room};
@@ -132,7 +132,7 @@ pub fn named(
 ) -> Result<(u32, Vec<Value>), u32>
     ensures named { IfOk result (λ found. TakesNumbers resident.now (ExportsFirst resident.now.loaded.contents name.now) numbers.now found.0 found.1.items) }
     ensures typed { IfOk result (λ found. TakesArguments resident.now.loaded.contents found.0 found.1.items) }
-    ensures refused { IfErr result (IsNoCall resident.now (ExportsNoFunction resident.now.loaded.contents name.now) (ExportsFirst resident.now.loaded.contents name.now) numbers.now) }
+    ensures refused { IfErr result (IsNoCall resident.now (ExportsNoFunction resident.now.loaded.contents name.now) (ExportsFirst resident.now.loaded.contents name.now) (Unit {0}) numbers.now) }
 {
     let Some((function, func_type)) = resident.function(name) else {
         return Err(NONE);
@@ -196,7 +196,10 @@ pub fn call_function(
     };
     let types = func_type.params.as_slice();
     let count = func_type.results.len();
-    if types.len() > FEW || numbers.len() != types.len() || count > 1 {
+    if !are_as_many(types, numbers) {
+        return ARGUMENTS;
+    }
+    if types.len() > FEW || count > 1 {
         let args = match arguments(alloc, types, numbers) {
             Ok(args) => args,
             Err(status) => return status,

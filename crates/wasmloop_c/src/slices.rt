@@ -1,6 +1,7 @@
 // Jobs in slices.
 
 ghost use Rattle.std.specs.Prelude.{◌≡◌, ◌≤◌, ◌<◌};
+ghost use Rattle.interp.specs.declared.paused.TheConstants.{UNIT_BYTES};
 ghost use Rattle.wasmloop_c.specs.Calls.{OnHandle};
 ghost use Rattle.wasmloop_c.specs.Slices.{BeginsJob, LeftBy, RunsFor, RunsStageFor};
 
@@ -11,6 +12,11 @@ use crate::thing::{JobStage, Thing};
 use order::{OrderGoing, Told};
 use std::alloc::Global;
 use std::mem::replace;
+
+/// So many bytes count as a unit as capi/include/wasmloop.h says.
+pub fn unit_is_64_bytes()
+    ensures { UNIT_BYTES ≡ 64 }
+{}
 
 /// The first slice of a job.
 fn begin(alloc: Global, job: RunnableOrder, units: u64) -> OrderGoing

@@ -133,7 +133,7 @@ fn copy_places(stop: &StopPlace<'_>, bytes: &[u8], into: &mut [SpelledSite])
 }
 
 fn stop_of_loop(core: &LoopCore<Desk>) -> Option<StopPlace<'_>>
-    ensures { IsStopOf core.now.setting core.now.loop.store (option_map told_of result) }
+    ensures { IsStopOf core.now.setting core.now.loop.state.status core.now.loop.store (option_map told_of result) }
 {
     Some(StopPlace::Callback(core.last_stop()?))
 }

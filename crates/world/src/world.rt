@@ -1,9 +1,9 @@
 // All loops and workers, in one thread.
 
-ghost use Rattle.std.specs.Prelude.{◌≡◌, ◌++◌, ◌∷◌, [], ◌≤◌, ◌<◌, true, false, All, IfOk, IfErr, IfSome, OnOk, OnErr, length, map, replicate, take};
+ghost use Rattle.std.specs.Prelude.{◌≡◌, ◌++◌, ◌∷◌, [], ◌≤◌, ◌<◌, true, false, All, IfOk, IfErr, IfNone, IfSome, OnOk, OnErr, length, map, replicate, take};
 ghost use Rattle.limits.specs.declared.TheConstants.{MAX_LOOPS, MAX_WORKERS};
 ghost use Rattle.world.specs.Making.{setting_from, settings_from, answers_of, HasDepth, Faults, MayFault, NamesNothing, Stops};
-ghost use Rattle.world.specs.Stopping.{StopsIn};
+ghost use Rattle.world.specs.Stopping.{HasUnfailed, StopsIn};
 ghost use Rattle.world.specs.Undone.{IsUndone};
 ghost use Rattle.world.specs.World.{opening_world, opening_loop, WorldStep, WorldRun, entry_told, job_of, TellsEnd, StepsLoop, PostsJob, WithWorker, WorkerTakesJob, StartsJob};
 ghost use Rattle.world.specs.World.{FinishesJob, CollectsReplies, SendsTo, CancelsRequest, ClocksAt};
@@ -224,7 +224,8 @@ impl World {
     /// Where the last callback of a loop stopped, unless it returned: at which operation, and within which calls.
     /// Of a loop that has failed, this stays.
     pub fn last_stop(&self, loop_no: u32) -> Option<Stop<'_>>
-        ensures { IfSome result (StopsIn self.now loop_no) }
+        ensures some { IfSome result (StopsIn self.now loop_no) }
+        ensures none { IfNone result (HasUnfailed self.now loop_no) }
     {
         let Some(core) = self.loops.get(loop_no as usize) else {
             return None;

@@ -1,5 +1,5 @@
 -- What a step comes to before its callback runs.
-use Rattle.std.specs.Prelude.{◌≡◌, List, [], ◌∷◌, All, drop}
+use Rattle.std.specs.Prelude.{◌≡◌, false, List, [], ◌∷◌, All, drop}
 use Rattle.std.specs.Option.{option_map}
 use Rattle.syntax.specs.declared.contents.Contents.{Contents}
 use Rattle.reduction.specs.Invoking.{TakesArguments, HasNoResults}
@@ -13,6 +13,8 @@ use Rattle.phases.specs.Fitting.{IsShort}
 use Rattle.phases.specs.Guests.{GuestCall}
 use Rattle.phases.specs.Ready.{IsReady, Spares}
 use Rattle.phases.specs.declared.entry.Entry.{Entry}
+use Rattle.phases.specs.declared.entry.Status.{Status}
+use Rattle.phases.specs.Outside.{is_failed}
 use Rattle.phases.specs.State.{Setting, Loop}
 use Rattle.phases.specs.Step.{RunsFrom, RanNone, in_state}
 
@@ -26,6 +28,11 @@ pub record CanCallBack (m : Contents) (c : PreparedCallback) : Type 0 where
 abbrev pub CanRunIn : Contents → Prepared → Type 0
 CanRunIn m (Did did) = RanNone (whole_did did)
 CanRunIn m (Runs c) = CanCallBack m c
+
+-- a callback runs only on a loop that has not failed
+abbrev pub RunsUnfailed : Prepared → Status → Type 0
+RunsUnfailed (Did did) status = Unit {0}
+RunsUnfailed (Runs c) status = is_failed status ≡ false
 
 module _ {S : Type 0} (calls : Calls S) (g : Setting) where
   -- from this loop the callback runs

@@ -1,5 +1,5 @@
 -- What is true of a step under way.
-use Rattle.std.specs.Prelude.{ℕ, List, Option}
+use Rattle.std.specs.Prelude.{◌≡◌, ℕ, false, List, Option}
 use Rattle.std.specs.Arc.{arc_value}
 use Rattle.syntax.specs.Loaded.{Loaded}
 use Rattle.syntax.specs.declared.types.Value.{Value}
@@ -11,6 +11,7 @@ use Rattle.interp.specs.Machines.{MachineFits}
 use Rattle.order.specs.ImportTypes.{import_types}
 use Rattle.phases.specs.declared.shared.Shared.{Ghosts}
 use Rattle.phases.specs.declared.machine.LoopMachine.{LoopMachine}
+use Rattle.phases.specs.Outside.{is_failed}
 use Rattle.phases.specs.Settings.{setting_of}
 use Rattle.phases.specs.State.{Setting, Loop}
 use Rattle.phases.specs.Underway.{StepInSlices, IsCallback}
@@ -44,4 +45,5 @@ module _ {S : Type 0} {gh : Ghosts S} where
     pub args : List Value
     pub reply : Option (List ℕ)
     pub callback : IsCallback gh.calls g mid args reply (step_in_slices loaded kind number machine paused) machine.host
+    pub unfailed : is_failed mid.state.status ≡ false
     pub bare : HasNoResults loaded.contents paused.function

@@ -1,5 +1,5 @@
-use Rattle.phases.proofs.Words.{Answered, answered, arc_value, AreOpenedUpTo, end_of, KeepsLoop, order_of, setting_of, State, with_requests}
-use Rattle.phases.proofs.LoopsKeep.{by_reply, kept_on}
+use Rattle.phases.proofs.Words.{Answered, answered, arc_value, AreOpenedUpTo, end_of, KeepsLoop, order_of, refl, setting_of, State, with_requests, ◌≡◌}
+use Rattle.phases.proofs.LoopsKeep.{by_reply, kept_on, still_unfailed}
 use Rattle.phases.proofs.OwnerCallsKeepListed.{grows_answered}
 use Rattle.phases.proofs.Runnable.{staged_orders}
 use Rattle.phases.proofs.loop_core.LoopCore.accept.Goals as goal
@@ -14,7 +14,9 @@ invariant_of-self-inside g c =
     let still =
     by_reply (λ (u : State). AreOpenedUpTo u.requests.last (g.B.Shared.calls.view c.self.inside.host.shared)) _ _ c.accept.result taken s
     c.accept.new.self upto upto c.accept.ensures.answered c.accept.ensures.refused in
-    ((still, tt), (c.self.inside.stopped, tt))
+    let same =
+    by_reply (λ (u : State). u.status ≡ s.status) _ _ c.accept.result taken s c.accept.new.self refl refl c.accept.ensures.answered c.accept.ensures.refused in
+    ((still, tt), (c.self.inside.stopped, (still_unfailed _ _ _ same c.self.inside.unfailed, tt)))
 
 pub invariant_of-self : goal.invariant_of-self
 invariant_of-self g c =

@@ -19,4 +19,4 @@ returns-in-Did-clause-begun g c =
 
 pub returns-in-Runs-clause-begun : goal.returns-in-Runs-clause-begun
 returns-in-Runs-clause-begun g c =
-    (c.call_back.ensures.come c.args.self (sym c.prepare.ensures.setting) c.in-Runs.ensures.step, c.call_back.ensures.used)
+    (c.call_back.ensures.come c.args.self (sym c.prepare.ensures.setting) c.in-Runs.ensures.step, c.call_back.ensures.used, c.call_back.ensures.copied)

@@ -1,6 +1,6 @@
 use Rattle.phases.proofs.Words.{ap, arc_value, Loop, option_map, refl, setting_of, State, sym, ◌∙◌}
 use Rattle.events.specs.Bare.{whole}
-use Rattle.phases.proofs.CallbacksEnd.{over_setting, over_stops, over_keeps, over_runs}
+use Rattle.phases.proofs.CallbacksEnd.{over_setting, over_stops, over_unfailed, over_keeps, over_runs}
 use Rattle.phases.proofs.LoopsKeep.{still_upto, names_of}
 use Rattle.phases.proofs.loop_core.LoopCore.call.Goals as goal
 
@@ -25,7 +25,12 @@ invariant_of-self-inside-2 g c =
     (option_map (λ v. v.items) callback.reply) c.self.invariant _ c.invoke_bare-ended.new.host refl begins c.invoke_bare-ended.new.state
     (whole c.invoke_bare-ended.result) c.invoke_bare-ended.new.stack runs in
     let upto = still_upto g.B.Shared.calls c.invoke_bare-ended.new.host.shared _ _ c.end_callback.ensures c.invoke_bare-ended.new.host.opened in
-    ((upto, tt), (stopped, tt))
+    let unfailed =
+    over_unfailed g.B.Shared.calls (arc_value c.self.inside.linked) (setting_of c.self.inside.host.setting) old callback.function callback.args
+    (option_map (λ v. v.items) callback.reply) c.self.invariant _ c.invoke_bare-ended.new.host refl begins c.invoke_bare-ended.new.state
+    (whole c.invoke_bare-ended.result) c.invoke_bare-ended.new.stack runs c.end_callback.new.self c.end_callback.ensures
+    (rw (← c.self.view_is) at c.requires.unfailed) in
+    ((upto, tt), (stopped, (unfailed, tt)))
 
 pub invariant_of-self : goal.invariant_of-self
 invariant_of-self g c =

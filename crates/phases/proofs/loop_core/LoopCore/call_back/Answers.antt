@@ -70,6 +70,7 @@ invariant_of-result g c =
       callback = begins_callback g.B.Shared.calls linked c.args.self.setting mid keeps m.host m.store set stored c.valid.result.now loaded callback.kind callback.number
           (arc_value m.machine.tables) callback.args reply c.begin-paused.result m.machine.slots m.machine.frames.items (λ i. (state i, shared i)) c.begin-paused.ensures.depth
           (rw (← c.as_slice.ensures) c.begin-paused.ensures.paused);
+      unfailed = c.requires.unfailed;
       bare = rw keeps.same (rw c.begin-paused.ensures.function c.requires.fits.bare);
     }
 

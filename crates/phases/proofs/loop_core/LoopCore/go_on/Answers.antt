@@ -1,4 +1,5 @@
-use Rattle.phases.proofs.Words.{whole_did, []}
+use Rattle.phases.proofs.Words.{ap, whole_did, [], ◌∙◌}
+use Rattle.phases.specs.Outside.{is_failed}
 use Rattle.phases.proofs.Prepared.{by_front}
 use Rattle.phases.proofs.loop_core.LoopCore.go_on.Goals as goal
 
@@ -8,8 +9,8 @@ prepare_entry-requires-clause-ready g c = rw c.take_front.ensures.setting c.in-S
 pub turn-requires : goal.turn-requires
 turn-requires g c = record { empty = rw c.in_default.ensures.none.0 c.in_default.ensures.none.1 }
 
-pub call-requires : goal.call-requires
-call-requires g c = rw c.prepare_entry.ensures.setting c.in-Runs.ensures.fits
+pub call-requires-clause-fits : goal.call-requires-clause-fits
+call-requires-clause-fits g c = rw c.prepare_entry.ensures.setting c.in-Runs.ensures.fits
 
 pub returns-in-Did-clause-step : goal.returns-in-Did-clause-step
 returns-in-Did-clause-step g c =
@@ -26,3 +27,6 @@ pub returns-in_default-clause-step : goal.returns-in_default-clause-step
 returns-in_default-clause-step g c =
     let turned = rw c.in_default.ensures.none.0 at c.turn.ensures.step in
     ([], rw c.in_default.ensures.none.1 turned)
+
+pub call-requires-clause-unfailed : goal.call-requires-clause-unfailed
+call-requires-clause-unfailed g c = ap is_failed (c.prepare_entry.ensures.status ∙ c.take_front.ensures.status) ∙ c.requires

@@ -1,5 +1,5 @@
-use Rattle.phases.proofs.Words.{AreOpenedUpTo, CanRun, MAX_REQUESTS, order_of, setting_of, sym, ◌<◌, ◌≡◌}
-use Rattle.phases.proofs.LoopsKeep.{kept_on, own_order, own_of}
+use Rattle.phases.proofs.Words.{ap, AreOpenedUpTo, CanRun, MAX_REQUESTS, order_of, setting_of, State, sym, ◌<◌, ◌∙◌, ◌≡◌}
+use Rattle.phases.proofs.LoopsKeep.{kept_on, next_status, still_unfailed, own_order, own_of}
 use Rattle.phases.proofs.Runnable.{next_orders, next_last}
 use Rattle.phases.proofs.loop_core.LoopCore.next_order.Goals as goal
 
@@ -8,7 +8,7 @@ invariant_of-self-inside g c =
     let shared = c.self.inside.host.shared in
     let last = next_last c.self.inside.host.state (λ n. AreOpenedUpTo n (g.B.Shared.calls.view shared)) c.self.inside.host.opened in
     let upto = rw (sym c.next_order.ensures.state) at last in
-    ((upto, tt), (c.self.inside.stopped, tt))
+    ((upto, tt), (c.self.inside.stopped, (still_unfailed _ _ _ (ap (λ (s : State). s.status) c.next_order.ensures.state ∙ next_status c.self.inside.host.state) c.self.inside.unfailed, tt)))
 
 pub invariant_of-self : goal.invariant_of-self
 invariant_of-self g c =

@@ -1,7 +1,7 @@
-use Rattle.phases.proofs.Words.{arc_value, completion_in, Loop, name_of_entry, refl, setting_of, type_of_entry, ◌∙◌}
+use Rattle.phases.proofs.Words.{ap, arc_value, completion_in, Loop, name_of_entry, refl, setting_of, State, type_of_entry, ◌∙◌}
 use Rattle.imports.specs.declared.entry_point.EntryPoint.TheVariants.{AfterWork as AfterWorkExport}
 use Rattle.phases.proofs.EntriesPrepared.{after_step}
-use Rattle.phases.proofs.LoopsKeep.{still_upto, takes, gives_nothing, not_missing, kept_with}
+use Rattle.phases.proofs.LoopsKeep.{still_upto, still_unfailed, takes, gives_nothing, not_missing, kept_with}
 use Rattle.phases.proofs.ListedStaysReady.{ready_without_request}
 use Rattle.phases.proofs.Runnable.{request_heard, other_orders}
 use Rattle.phases.proofs.loop_core.LoopCore.prepare_after_work.Goals as goal
@@ -18,7 +18,7 @@ unreachable-requires g c =
 pub invariant_of-self-inside : goal.invariant_of-self-inside
 invariant_of-self-inside g c =
     let upto = still_upto g.B.Shared.calls c.self.inside.host.shared _ _ c.take_request-completion.ensures.removed c.self.inside.host.opened in
-    ((upto, tt), (c.self.inside.stopped, tt))
+    ((upto, tt), (c.self.inside.stopped, (still_unfailed _ _ _ (ap (λ (s : State). s.status) c.take_request-completion.ensures.removed) c.self.inside.unfailed, tt)))
 
 pub invariant_of-self : goal.invariant_of-self
 invariant_of-self g c =

@@ -11,7 +11,7 @@ invariant_of-self-inside g c =
     let upto =
     taken_upto g.B.Shared.calls g.met.B.Shared.lawful c.self.inside.host.state.requests.last c.self.inside.host.shared c.take.new.self
     c.args.async_no c.take.result c.take.ensures c.self.inside.host.opened in
-    ((upto, tt), (c.self.inside.stopped, tt))
+    ((upto, tt), (c.self.inside.stopped, (c.self.inside.unfailed, tt)))
 
 pub returns-then-take-eq0-clause-step : goal.returns-then-take-eq0-clause-step
 returns-then-take-eq0-clause-step g c =

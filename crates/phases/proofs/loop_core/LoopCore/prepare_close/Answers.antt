@@ -1,7 +1,7 @@
-use Rattle.phases.proofs.Words.{I32, Loop, refl, setting_of, [], ◌∷◌}
+use Rattle.phases.proofs.Words.{ap, I32, Loop, refl, setting_of, State, [], ◌∷◌}
 use Rattle.events.specs.declared.phase.EntryKind.TheVariants.{Close}
 use Rattle.phases.proofs.EntriesPrepared.{close_step}
-use Rattle.phases.proofs.LoopsKeep.{still_upto, handle_takes, handle_bare, kept_with}
+use Rattle.phases.proofs.LoopsKeep.{still_upto, still_unfailed, handle_takes, handle_bare, kept_with}
 use Rattle.phases.proofs.ListedStaysReady.{ready_without_handle}
 use Rattle.phases.proofs.Prepared.{fits}
 use Rattle.phases.proofs.loop_core.LoopCore.prepare_close.Goals as goal
@@ -9,7 +9,7 @@ use Rattle.phases.proofs.loop_core.LoopCore.prepare_close.Goals as goal
 pub invariant_of-self-inside : goal.invariant_of-self-inside
 invariant_of-self-inside g c =
     let upto = still_upto g.B.Shared.calls c.self.inside.host.shared _ _ c.finish_closing-function.ensures.removed c.self.inside.host.opened in
-    ((upto, tt), (c.self.inside.stopped, tt))
+    ((upto, tt), (c.self.inside.stopped, (still_unfailed _ _ _ (ap (λ (s : State). s.status) c.finish_closing-function.ensures.removed) c.self.inside.unfailed, tt)))
 
 pub invariant_of-self : goal.invariant_of-self
 invariant_of-self g c =

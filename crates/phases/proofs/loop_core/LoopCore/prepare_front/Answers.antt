@@ -1,4 +1,6 @@
-use Rattle.phases.proofs.Prepared.{prepared_by_front}
+use Rattle.phases.proofs.Words.{ap, ◌∙◌}
+use Rattle.phases.specs.Outside.{is_failed}
+use Rattle.phases.proofs.Prepared.{prepared_by_front, runs_unfailed}
 use Rattle.phases.proofs.loop_core.LoopCore.prepare_front.Goals as goal
 
 pub prepare_entry-requires-clause-ready : goal.prepare_entry-requires-clause-ready
@@ -16,3 +18,7 @@ pub returns-in_default-clause-step : goal.returns-in_default-clause-step
 returns-in_default-clause-step g c =
     let turned = rw c.in_default.ensures.none.0 at c.turn.ensures.step in
     rw c.in_default.ensures.none.1 turned
+
+pub returns-clause-unfailed : goal.returns-clause-unfailed
+returns-clause-unfailed g c =
+    runs_unfailed c.prepare_entry.result c.prepare_entry.new.self.loop.state.status (ap is_failed (c.prepare_entry.ensures.status ∙ c.take_front.ensures.status) ∙ c.requires)

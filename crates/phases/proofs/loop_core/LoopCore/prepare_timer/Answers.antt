@@ -2,14 +2,14 @@ use Rattle.phases.proofs.Words.{I32, Loop, setting_of, sym, [], ◌∷◌}
 use Rattle.events.specs.declared.phase.EntryKind.TheVariants.{Timer}
 use Rattle.phases.proofs.EntriesPrepared.{timer_step}
 use Rattle.phases.proofs.ListedStaysReady.{grows_again}
-use Rattle.phases.proofs.LoopsKeep.{handle_takes, handle_bare, kept_on}
+use Rattle.phases.proofs.LoopsKeep.{handle_takes, handle_bare, kept_on, still_unfailed}
 use Rattle.phases.proofs.Prepared.{fits}
 use Rattle.phases.proofs.loop_core.LoopCore.prepare_timer.Goals as goal
 
 pub invariant_of-self-inside : goal.invariant_of-self-inside
 invariant_of-self-inside g c =
     let upto = rw (sym c.fire.ensures.requests) at c.self.inside.host.opened in
-    ((upto, tt), (c.self.inside.stopped, tt))
+    ((upto, tt), (c.self.inside.stopped, (still_unfailed _ _ _ (c.fire.ensures.status) c.self.inside.unfailed, tt)))
 
 pub invariant_of-self : goal.invariant_of-self
 invariant_of-self g c =

@@ -11,4 +11,4 @@ invariant_of-self-inside g c =
     (g.met.B.Beside.beside.starts c.self.inside.host.shared c.start.new.self c.args.slot c.args.request c.start.result c.start.ensures) in
     let last = c.self.inside.host.state.requests.last in
     let upto = upto_view g.B.Shared.calls g.met.B.Shared.lawful last old new same c.self.inside.host.opened in
-    ((upto, tt), (c.self.inside.stopped, tt))
+    ((upto, tt), (c.self.inside.stopped, (c.self.inside.unfailed, tt)))

@@ -1,12 +1,12 @@
 use Rattle.phases.proofs.Words.{ap, drop, Loop, refl, State, sym, ◌∙◌}
-use Rattle.phases.proofs.LoopsKeep.{still_upto, kept_with, front_of, no_front}
+use Rattle.phases.proofs.LoopsKeep.{still_upto, still_unfailed, kept_with, front_of, no_front}
 use Rattle.phases.proofs.ListedStaysReady.{ready_front, ready_rest, spared_rest}
 use Rattle.phases.proofs.loop_core.LoopCore.take_front.Goals as goal
 
 pub invariant_of-self-inside : goal.invariant_of-self-inside
 invariant_of-self-inside g c =
     let upto = still_upto g.B.Shared.calls c.self.inside.host.shared _ _ c.pop.ensures c.self.inside.host.opened in
-    ((upto, tt), (c.self.inside.stopped, tt))
+    ((upto, tt), (c.self.inside.stopped, (still_unfailed _ _ _ (ap (λ (s : State). s.status) c.pop.ensures) c.self.inside.unfailed, tt)))
 
 pub invariant_of-self : goal.invariant_of-self
 invariant_of-self g c =

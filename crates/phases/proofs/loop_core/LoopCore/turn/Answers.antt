@@ -1,5 +1,5 @@
 use Rattle.phases.proofs.Words.{ap, AreOrdersOf, Loop, RanNone, refl, Roster, setting_of, State, subst, sym, ◌∙◌}
-use Rattle.phases.proofs.LoopsKeep.{kept_with, turn_leaves}
+use Rattle.phases.proofs.LoopsKeep.{kept_with, turn_leaves, turn_unfailed}
 use Rattle.phases.proofs.Prepared.{turn_ran_none}
 use Rattle.phases.proofs.loop_core.LoopCore.turn.Goals as goal
 
@@ -7,7 +7,8 @@ pub invariant_of-self-inside : goal.invariant_of-self-inside
 invariant_of-self-inside g c =
     let requests = ap (λ (s : State). s.requests) c.turn.ensures.state ∙ (turn_leaves c.self.inside.host.state).1 in
     let upto = rw (sym requests) at c.self.inside.host.opened in
-    ((upto, tt), (c.self.inside.stopped, tt))
+    let unfailed = rw (sym c.turn.ensures.state) at (turn_unfailed _ c.self.inside.host.state c.self.inside.unfailed) in
+    ((upto, tt), (c.self.inside.stopped, (unfailed, tt)))
 
 pub invariant_of-self : goal.invariant_of-self
 invariant_of-self g c =

@@ -35,6 +35,7 @@ over-core-requires-clause-some g c =
       v.args,
       v.reply,
       record { keeps = k.keeps; before = k.before; made = k.made; begins = k.begins; leads = over.leads },
+      v.unfailed,
     )
 
 pub over-core-requires-clause-bare : goal.over-core-requires-clause-bare
@@ -68,6 +69,7 @@ invariant_of-result g c =
       reply = v.reply;
       callback = further calls l i.kind i.number (arc_value i.machine.machine.tables) (arc_value n.machine.tables) fits.runs.valid fits.runs.agree i.paused i.machine.machine.slots i.machine.machine.frames.items
           i.machine.store i.machine.host p n.machine.slots n.machine.frames.items n.store n.host e.call v.g v.mid v.args v.reply i.machine.host k k.before k.made k.begins there;
+      unfailed = v.unfailed;
       bare = rw e.call.0 v.bare;
     }
 

@@ -53,9 +53,17 @@ nginx -c "$room/nginx.conf" -p "$room" -t 2> "$room/t" || { cat "$room/t"; exit 
 bench=()
 if [ "${1:-}" = bench ]; then       # a processor of its own; Lua and njs beside it (libnginx-mod-http-lua, -js)
     bench=(taskset -c "$last")
-    echo 'function long(r) { var n = 0; for (var i = 0; i < 2000000; i++) { n = (n * 31 + i) | 0; } r.return(200, String(n)); } export default { long };' > "$room/rules.js"
+    cat > "$room/rules.js" <<'J'
+function long(r) { var n = 0; for (var i = 0; i < 2000000; i++) { n = (n * 31 + i) | 0; } r.return(200, String(n)); }
+function slug(r) { r.return(200, r.requestText.toLowerCase().replace(/[^a-z0-9]+/g, '-').replace(/^-|-$/g, '')); }
+export default { long, slug };
+J
+    cat > "$room/slug.lua" <<'L'
+ngx.req.read_body()
+ngx.print((ngx.req.get_body_data():lower():gsub('[^a-z0-9]+', '-'):gsub('^%-', ''):gsub('%-$', '')))
+L
     sed -i "1i load_module modules/ndk_http_module.so;\nload_module modules/ngx_http_lua_module.so;\nload_module modules/ngx_http_js_module.so;" "$room/nginx.conf"
-    sed -i "s|#RANDOM|location /lua/long { content_by_lua_block { local n = 0 for i = 0, 1999999 do n = bit.tobit(n * 31 + i) end ngx.print(n) } } location /js/long { js_content rules.long; }|
+    sed -i "s|#RANDOM|location /lua/long { content_by_lua_block { local n = 0 for i = 0, 1999999 do n = bit.tobit(n * 31 + i) end ngx.print(n) } } location /js/long { js_content rules.long; } location /lua/slug { content_by_lua_file $room/slug.lua; } location /js/slug { js_content rules.slug; }|
         s|^http {|http { js_import rules from $room/rules.js; lua_package_path '/usr/share/lua/5.1/?.lua;;';|; s|load_module modules|load_module /usr/lib/nginx/modules|" "$room/nginx.conf"
 fi
 "${bench[@]}" nginx -c "$room/nginx.conf" -p "$room" 2> "$room/stderr" &
@@ -66,11 +74,26 @@ get() { curl -s -m 20 -w '|%{http_code}' "$@" | tr '\n' '|'; }
 code() { curl -s -m 20 -o /dev/null -w '%{http_code}' "$@"; }
 letters() { head -c "$1" /dev/zero | tr '\0' A; }
 url=http://127.0.0.1:$port
+# the worker's processor time of a request, the least of five times 8,000 (ab, of apache2-utils)
+short() {
+    local worker best=999999999999 before after n=8000
+    worker=$(pgrep -P $pid | head -1)
+    for _ in 1 2 3 4 5; do
+        read -r before _ < "/proc/$worker/schedstat"
+        ab -q -k -n $n -c 4 -p "$room/text" "$url$1" > "$room/ab" 2>&1
+        read -r after _ < "/proc/$worker/schedstat"
+        [ $((after - before)) -ge $best ] || best=$((after - before))
+    done
+    grep -q "^Non-2xx\|^Failed requests: *[1-9]" "$room/ab" && { echo "short requests of $1 failed"; cat "$room/ab"; }
+    echo "short $1: $(python3 -c "print(f'{$best / 1e3 / $n:.1f}')") us of the worker"
+}
 if [ "${1:-}" = bench ]; then
     for _ in 1 2 3; do for path in - /long /lua/long /js/long; do
         taskset -c "$last" timeout 10 python3 "$top/hosts/paced.py" http 127.0.0.1:"$port" $path
         sleep 0.5
     done; done
+    echo 'Hello, World 42' > "$room/text"
+    for path in /static /slug /lua/slug /js/slug; do short $path; done
     exit
 fi
 if [ "${1:-}" = random ]; then      # modules of a folder, of which none may crash a worker

@@ -1,12 +1,13 @@
 #!/bin/bash
 # shellcheck disable=SC2034,SC2154
-# The addon in Node: test.sh
+# The addon in Node: test.sh [bench]
 set -u
 cd "$(dirname "$0")" || exit 1
 name=node
 . ../lib.sh
 trap 'rm -rf "$room"' EXIT
 ./build.sh || exit 1
+if [ "${1:-}" = bench ]; then node bench.js; exit; fi
 timeout 300 node --expose-gc test.js > "$room/said" 2>&1
 want $? 0 "test.js ends"
 read -r good bad < <(tail -1 "$room/said")

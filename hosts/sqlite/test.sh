@@ -1,12 +1,18 @@
 #!/bin/bash
 # shellcheck disable=SC2034,SC2154
-# The extension in SQLite's shell and in Python's sqlite3: test.sh
+# The extension in SQLite's shell and in Python's sqlite3: test.sh [bench]
 set -u
 cd "$(dirname "$0")" || exit 1
 name=sqlite
 . ../lib.sh
 trap 'rm -rf "$room"' EXIT
 ./build.sh || exit 1
+if [ "${1:-}" = bench ]; then       # beside Lua (liblua5.4-dev), on a processor of its own
+    # shellcheck disable=SC2046
+    cc -O2 -Wall -Wextra -Werror -o "$room/bench" bench.c $(pkg-config --cflags --libs lua5.4 sqlite3) || exit 1
+    taskset -c "$last" "$room/bench" ./out/wasmloop "$(od -An -v -tx1 "$guest" | tr -d ' \n')"
+    exit
+fi
 # a module that exports `array`: as rules.wasm, whose `score` has a name of this length
 python3 -c 'import sys; b = open(sys.argv[1], "rb").read(); assert b.count(b"\x05score\x00") == 1; open(sys.argv[2], "wb").write(b.replace(b"\x05score\x00", b"\x05array\x00"))' "$guest" "$room/json.wasm"
 sql() { sqlite3 -bail :memory: ".load ./out/wasmloop" "CREATE TEMP TABLE loaded AS SELECT load_plugin('r', readfile('$guest'))" "$@" 2>&1 | tr '\n' '|'; }

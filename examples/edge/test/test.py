@@ -748,6 +748,47 @@ def operators():
         began = time.monotonic()
         second.end()
         check(time.monotonic() - began >= 1, "a second of draining", time.monotonic() - began)
+    restarts()
+
+
+def restarts():
+    """Four clients lose no request while one server follows another on a socket, as systemd restarts it, three times: each tries once more."""
+    asked, again, lost, over = [0], [], [], threading.Event()
+    with tempfile.TemporaryDirectory() as folder, socket.socket(socket.AF_UNIX, socket.SOCK_DGRAM) as told, socket.create_server(("127.0.0.1", 0), backlog=128) as listener:
+        told.bind(f"{folder}/told")
+        told.settimeout(120)
+        server = Activated(listener, told, "-g", "1")
+
+        def tried():
+            try:
+                return server.ask("/hello", b"you")[:2]
+            except (OSError, http.client.HTTPException) as error:
+                return repr(error)
+
+        def client():
+            while not over.is_set():
+                first = tried()
+                asked[0] += 1
+                if first != (200, b"hello, you"):
+                    again.append(first)
+                    second = tried()
+                    lost.extend([] if second == (200, b"hello, you") else [(first, second)])
+
+        clients = [threading.Thread(target=client) for _ in range(4)]
+        for it in clients:
+            it.start()
+        for _ in range(3):
+            time.sleep(0.2)
+            server.end()
+            check(told.recv(100) == b"STOPPING=1", "it has ended")
+            server = Activated(listener, told, "-g", "1")
+        time.sleep(0.2)
+        over.set()
+        for it in clients:
+            it.join()
+        server.end()
+    check(asked[0] > 20 and not lost, "no request is lost over three restarts", asked, lost[:5])
+    print(f"    three restarts: {asked[0]} requests, {len(again)} of them asked twice, none lost")
 
 
 def page():

@@ -18,7 +18,7 @@ from wasmloop import Error, Module, __main__ as tools, _tool, ask, callbacks, li
 from wasmloop.wasm import CODE, EXPORT, FUNCTION, MEMORY, TABLE, TYPE, i32, sized, text, u, vec
 
 OUT = Path(sys.argv[1])
-ELEMENT, SECONDS, MEGABYTES = 9, 20, 600
+ELEMENT, DATA_COUNT, SECONDS, MEGABYTES = 9, 12, 20, 600
 NOP, END, DROP, ADD, LOCAL_GET, GET_0, SET_0 = b"\x01", b"\x0b", b"\x1a", b"\x6a", 0x20, b"\x20\0", b"\x21\0"
 
 
@@ -27,7 +27,7 @@ def module(bodies, exports, types=(b"\x60\0\0",), kinds=None, parts=None, custom
     sections = {TYPE: vec(types), FUNCTION: vec([u(it) for it in kinds or [0] * len(bodies)]),
                 EXPORT: vec([text(name) + b"\0" + u(at) for name, at in exports.items()]),
                 CODE: vec([sized(b"\0" + it + END) for it in bodies]), **(parts or {})}
-    held = b"".join(bytes([kind]) + sized(it) for kind, it in sorted(sections.items()))
+    held = b"".join(bytes([kind]) + sized(it) for kind, it in sorted(sections.items(), key=lambda it: 9.5 if it[0] == DATA_COUNT else it[0]))
     return b"\0asm\1\0\0\0" + held + b"".join(b"\0" + sized(text(name) + it) for name, it in custom)
 
 
@@ -226,10 +226,10 @@ def lowered():
              "a type of many parameters": module([b"\0" + b"\x10\0" * 100_000], {}, wide),
              "a long chain of calls": module(chain, {"guest_threw": 1}, [b"\x60\0\0"], [0] * len(chain),
                                              {wasm.IMPORT: vec([text("env") + text("emscripten_longjmp") + b"\0\0"])}),
-             "nulls in the table": module([], {}, parts={TABLE: vec([b"\x70\0" + u(20_000)]), ELEMENT: vec(
+             "nulls in the table": module([b""], {}, parts={TABLE: vec([b"\x70\0" + u(20_000)]), ELEMENT: vec(
                  [b"\0" + i32(0) + END + vec([u(0)] * 10_000), *[nulls.replace(i32(0), i32(10_001))] * 20_000])}),
              "a long passive segment": module([b"\x41\0\x41\0\x41\0\xfc\x08\0\0"], {}, parts={
-                 MEMORY: vec([b"\0\1"]), 12: u(1), wasm.DATA: vec([b"\1" + sized(bytes(range(256)) * 2000)])})}
+                 MEMORY: vec([b"\0\1"]), DATA_COUNT: u(1), wasm.DATA: vec([b"\1" + sized(bytes(range(256)) * 2000)])})}
     for what, data in tried.items():
         found = ended(what, lambda data=data: lower.lower(data, (Path(lower.SOFT)).read_bytes()), lower.Refused)
         same(f"lower: {what}", isinstance(found, (tuple, lower.Refused)), True)

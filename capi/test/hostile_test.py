@@ -189,6 +189,17 @@ def inlined():
     del os.environ["SYMBOLIZER"]
 
 
+def deep_paths():
+    """250 calls of a function that calls itself 120 times deep, with names of 900 letters and 1,000 exports: 30,000 call paths."""
+    deep = GET_0 + b"\x04\x40" + GET_0 + i32(-1) + ADD + b"\x10\0" + END
+    every = b"".join(i32(118) + b"\x10\0" for _ in range(250))
+    exports = {"f": 1, **{f"e{it}": 0 for it in range(1000)}}
+    data = module([deep, every], exports, [b"\x60\1\x7f\0", b"\x60\0\0"], [0, 1], custom=[names("a" * 900, "b" * 900)])
+    with Module(data) as host:
+        made = ended("30,000 call paths", lambda: profile.Profile(wasm.Module(data), runs.Call(data, host, "f", (), 128)))
+    same("exact, and how many paths", (made.why, len(made.nodes)), ("", 250 * 119 + 2))
+
+
 IDLE_C = r"""
 #include "uv.h"
 GUEST_LOG(1 << 20);
@@ -305,7 +316,7 @@ def pipes():
         same(f"{' '.join(map(str, words))}, read by nobody", (done.returncode, done.stderr), (1, ""))
 
 
-PARTS = numbers, long_names, logs, questions, counts, unlike, broken, symbolizers, inlined, siblings, long_records, lowered, floods, statuses, pipes
+PARTS = numbers, long_names, logs, questions, counts, unlike, broken, symbolizers, inlined, siblings, deep_paths, long_records, lowered, floods, statuses, pipes
 
 
 def main():

@@ -3,7 +3,7 @@
 usage: PYTHONPATH=capi/python WASMLOOP_LIBRARY=LIBRARY desk_test.py PROGRAM OUT [PART..]
 
 The parts are lines, hosts, units, callbacks, covered, warm, log, instances, fuzz and words; default: all. Parts that need a missing compiler are
-skipped with a message.
+skipped with a message. HOSTS in the environment is how many random hosts there are (1,000), SEED (0) which ones.
 """
 
 import collections
@@ -27,7 +27,8 @@ from wasmloop import (_errors, _tool, callbacks, callgrind, counts, cover, freez
 
 PROGRAM, OUT = os.path.abspath(sys.argv[1]), Path(sys.argv[2])
 EXAMPLES = Path(__file__).resolve().parent.parent.parent / "examples"
-HOSTS, CALLBACKS, REQUESTS, THREADS = 1000, 150, 200, max(os.cpu_count() or 1, 2) - 1
+HOSTS, SEED = int(os.environ.get("HOSTS", "1000")), int(os.environ.get("SEED", "0")) * 10**6
+CALLBACKS, REQUESTS, THREADS = 150, 200, max(os.cpu_count() or 1, 2) - 1
 wrong = 0
 
 
@@ -141,8 +142,8 @@ def hosts_part():
     names = sorted(EXAMPLES.glob("*.wasm")) + [it for it in (guests.built(OUT, EXAMPLES, it) for it in ("racy", "waits")) if it]
     loops = [it for it in names if wasmloop.Module(it.read_bytes()).shape().main]
     with ThreadPoolExecutor(THREADS) as pool:
-        told = list(pool.map(lambda seed: one_host(seed, loops[seed % len(loops)]), range(HOSTS)))
-    for seed, why in enumerate(why for why, _, _ in told):
+        told = list(pool.map(lambda seed: one_host(seed, loops[seed % len(loops)]), range(SEED, SEED + HOSTS)))
+    for seed, why in enumerate((why for why, _, _ in told), SEED):
         if why:
             bad(f"host {seed}, {loops[seed % len(loops)].name}: {why}")
     failed = sum(it[2] for it in told)

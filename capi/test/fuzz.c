@@ -689,6 +689,34 @@ static void global(slot *it) {
     is("a global's value", (value.value_type == 1 && value.number <= UINT32_MAX) || value.value_type == 2, 1);
 }
 
+/* How a run ended, as a text: of the numbers that have a name. */
+
+static uint64_t end_of_text(uint64_t used, uint8_t *text, uint64_t count) {
+    char told[40];
+    int length = snprintf(told, sizeof told, "after %lu unit%s", (unsigned long)used, used == 1 ? "" : "s");
+    return count > (uint64_t)length && !memcmp(text + count - (uint64_t)length, told, (size_t)length);
+}
+
+static void text_of(const char *what, int of_job, uint32_t number, uint32_t trap, int wanted) {
+    size_t room = below(100);
+    uint64_t count = GUARD, used = below(1000);
+    uint8_t *into = room_for(room);
+    int status = of_job ? CALL(wasmloop_outcome_text(number, trap, used, (char *)into, room, &count))
+        : CALL(wasmloop_ended_text(number, trap, used, (char *)into, room, &count));
+    if (!told(what, status, wanted)) is("the text's length", (long)count, GUARD);
+    else if (count <= room) is("how a text ends", (long)end_of_text(used, into, count), 1);
+    done_with(what, into, room, status == WASMLOOP_OK ? count : 0);
+}
+
+static void texts(slot *a, slot *b) {
+    uint32_t ending = below(8), outcome = below(8), trap = below(10);
+    int has_name = trap >= 1 && trap <= 7, number = (int)below(16) - 1;
+    (void)a, (void)b;
+    text_of("ended_text", 0, ending, trap, ending > WASMLOOP_SPENT || (ending == WASMLOOP_TRAP && !has_name) ? WASMLOOP_RANGE : WASMLOOP_OK);
+    text_of("outcome_text", 1, outcome, trap, outcome > WASMLOOP_WORK_MEMORY || (outcome == WASMLOOP_WORK_TRAP && !has_name) ? WASMLOOP_RANGE : WASMLOOP_OK);
+    is("a status has a sentence if it has a name", !wasmloop_status_text(number), !wasmloop_status_name(number));
+}
+
 /* Sequences. */
 
 static void drop(slot *it) {
@@ -743,7 +771,7 @@ static const struct { void (*call)(slot *, slot *); int first, second; } all[] =
     { next_job, STEPPING, NOTHING }, { start, STEPPING, JOB }, { accept, STEPPING, JOB }, { asks, STEPPING, NOTHING },
     { memories, STEPPING, NOTHING }, { globals, STEPPING, NOTHING }, { tells, STEPPING, NOTHING }, { drops, STEPPING, NOTHING },
     { first_slices, INSTANCE, NOTHING }, { first_slices, INSTANCE, NOTHING }, { first_slices, CALLING, NOTHING },
-    { exports, MODULE, NOTHING }, { exports, INSTANCE, NOTHING },
+    { exports, MODULE, NOTHING }, { exports, INSTANCE, NOTHING }, { texts, NOTHING, NOTHING },
     { tells, CALLING, NOTHING }, { tells, LOOP, NOTHING }, { tells, INSTANCE, NOTHING }, { tells, JOB, NOTHING }, { tells, MODULE, NOTHING },
 };
 

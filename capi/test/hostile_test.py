@@ -18,7 +18,7 @@ from wasmloop import Error, Module, __main__ as tools, _tool, ask, callbacks, li
 from wasmloop.wasm import CODE, EXPORT, FUNCTION, MEMORY, TABLE, TYPE, i32, sized, text, u, vec
 
 OUT = Path(sys.argv[1])
-ELEMENT, SECONDS, MEGABYTES = 9, 20, 600
+ELEMENT, DATA_COUNT, SECONDS, MEGABYTES = 9, 12, 20, 600
 NOP, END, DROP, ADD, LOCAL_GET, GET_0, SET_0 = b"\x01", b"\x0b", b"\x1a", b"\x6a", 0x20, b"\x20\0", b"\x21\0"
 
 
@@ -27,7 +27,7 @@ def module(bodies, exports, types=(b"\x60\0\0",), kinds=None, parts=None, custom
     sections = {TYPE: vec(types), FUNCTION: vec([u(it) for it in kinds or [0] * len(bodies)]),
                 EXPORT: vec([text(name) + b"\0" + u(at) for name, at in exports.items()]),
                 CODE: vec([sized(b"\0" + it + END) for it in bodies]), **(parts or {})}
-    held = b"".join(bytes([kind]) + sized(it) for kind, it in sorted(sections.items()))
+    held = b"".join(bytes([kind]) + sized(it) for kind, it in sorted(sections.items(), key=lambda it: 9.5 if it[0] == DATA_COUNT else it[0]))
     return b"\0asm\1\0\0\0" + held + b"".join(b"\0" + sized(text(name) + it) for name, it in custom)
 
 
@@ -189,6 +189,17 @@ def inlined():
     del os.environ["SYMBOLIZER"]
 
 
+def deep_paths():
+    """250 calls of a function that calls itself 120 times deep, with names of 900 letters and 1,000 exports: 30,000 call paths."""
+    deep = GET_0 + b"\x04\x40" + GET_0 + i32(-1) + ADD + b"\x10\0" + END
+    every = b"".join(i32(118) + b"\x10\0" for _ in range(250))
+    exports = {"f": 1, **{f"e{it}": 0 for it in range(1000)}}
+    data = module([deep, every], exports, [b"\x60\1\x7f\0", b"\x60\0\0"], [0, 1], custom=[names("a" * 900, "b" * 900)])
+    with Module(data) as host:
+        made = ended("30,000 call paths", lambda: profile.Profile(wasm.Module(data), runs.Call(data, host, "f", (), 128)))
+    same("exact, and how many paths", (made.why, len(made.nodes)), ("", 250 * 119 + 2))
+
+
 IDLE_C = r"""
 #include "uv.h"
 GUEST_LOG(1 << 20);
@@ -226,10 +237,10 @@ def lowered():
              "a type of many parameters": module([b"\0" + b"\x10\0" * 100_000], {}, wide),
              "a long chain of calls": module(chain, {"guest_threw": 1}, [b"\x60\0\0"], [0] * len(chain),
                                              {wasm.IMPORT: vec([text("env") + text("emscripten_longjmp") + b"\0\0"])}),
-             "nulls in the table": module([], {}, parts={TABLE: vec([b"\x70\0" + u(20_000)]), ELEMENT: vec(
+             "nulls in the table": module([b""], {}, parts={TABLE: vec([b"\x70\0" + u(20_000)]), ELEMENT: vec(
                  [b"\0" + i32(0) + END + vec([u(0)] * 10_000), *[nulls.replace(i32(0), i32(10_001))] * 20_000])}),
              "a long passive segment": module([b"\x41\0\x41\0\x41\0\xfc\x08\0\0"], {}, parts={
-                 MEMORY: vec([b"\0\1"]), 12: u(1), wasm.DATA: vec([b"\1" + sized(bytes(range(256)) * 2000)])})}
+                 MEMORY: vec([b"\0\1"]), DATA_COUNT: u(1), wasm.DATA: vec([b"\1" + sized(bytes(range(256)) * 2000)])})}
     for what, data in tried.items():
         found = ended(what, lambda data=data: lower.lower(data, (Path(lower.SOFT)).read_bytes()), lower.Refused)
         same(f"lower: {what}", isinstance(found, (tuple, lower.Refused)), True)
@@ -305,7 +316,7 @@ def pipes():
         same(f"{' '.join(map(str, words))}, read by nobody", (done.returncode, done.stderr), (1, ""))
 
 
-PARTS = numbers, long_names, logs, questions, counts, unlike, broken, symbolizers, inlined, siblings, long_records, lowered, floods, statuses, pipes
+PARTS = numbers, long_names, logs, questions, counts, unlike, broken, symbolizers, inlined, siblings, deep_paths, long_records, lowered, floods, statuses, pipes
 
 
 def main():

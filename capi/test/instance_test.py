@@ -78,13 +78,18 @@ assert in_slices(2**64 - 1, "add", 5) == (15, 0) and two.used == 8 and two.call(
 print(fails(w.Stopped, lambda: in_slices(100, "spin", fuel=1000), ending="spent", used=1000))
 
 # a call that is stopped leaves what a call with just that fuel leaves
+total = two.call("add", 0)
 call = two.begin("spin")
-assert (call.run_for(70), call.stop(), two.used, two.call("add", 0)) == (False, 70, 70, 15)
+assert (call.run_for(70), call.stop(), two.used) == (False, 70, 70)
+stopped = two.call("add", 0)
 print(fails(w.Stopped, call.result, ending="spent", used=70), fails(w.Error, call.stop, status=w.KIND))
-assert two.begin("add", 9).stop() == 0 and two.call("add", 0) == 15
+print(fails(w.Stopped, lambda: two.call("spin", fuel=70), ending="spent", used=70))
+spent = two.call("add", 0)
+assert spent - stopped == stopped - total > 0
+assert two.begin("add", 9).stop() == 0 and two.call("add", 0) == spent
 # a call and its first slice
 call = two.call_for("add", 9, units=1)
-assert (call.run_for(1000), call.result()) == (True, 24) and two.call_for("add", 1, units=1000).result() == 25
+assert (call.run_for(1000), call.result()) == (True, spent + 9) and two.call_for("add", 1, units=1000).result() == spent + 10
 assert ("add", "function") in [(name, kind) for name, kind, _ in module.exports]
 print(fails(w.Error, lambda: two.begin("absent"), status=w.NONE))
 print(fails(w.Error, lambda: two.begin("add", 1, depth=129), status=w.RANGE))

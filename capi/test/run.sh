@@ -72,7 +72,7 @@ prints() {
     [ "$(sh -c "$4" host "$out/$2.wasm" 2> "$out/said")" = "$3" ] || { fail "$1 on $2.c"; cat "$out/said"; }
 }
 
-# Two loops on two threads, and eight threads on one module: no race is reported, and those that are built in are.
+# Two loops on two threads, eight threads on one module, and loops that eight threads pass on: no race is reported, and those that are built in are.
 races() {
     for fault in SOUND WITHOUT_LOCK WITHOUT_WAIT; do
         # shellcheck disable=SC2086
@@ -88,6 +88,12 @@ races() {
             try cc $c -g -O1 -D$fault -o "$out/plain_share_$fault" "$here/share_test.c" "$lib/libwasmloop.a" -lpthread
         }
     done
+    for fault in SOUND PASSED_EARLY; do
+        # shellcheck disable=SC2086
+        try cc $c -g -O1 -fsanitize=thread -D$fault -o "$out/pass_$fault" "$here/pass_test.c" "$lib/libwasmloop.a" -lpthread
+    done
+    "$out/pass_SOUND" "$examples" 200 || fail "loops in slices that threads pass on, under ThreadSanitizer"
+    reports env TSAN_OPTIONS=halt_on_error=1 "$out/pass_PASSED_EARLY" "$examples" 200 || fail "ThreadSanitizer doesn't report PASSED_EARLY"
     "$out/share_SOUND" "$examples/crc32.wasm" 100 || fail "eight threads on one module, under ThreadSanitizer"
     reports env TSAN_OPTIONS=halt_on_error=1 "$out/share_WITH_DROP" "$examples/crc32.wasm" 100 || fail "ThreadSanitizer doesn't report WITH_DROP"
     "$out/threads_SOUND" "$examples/digest.wasm" 50 || fail "two loops on two threads, under ThreadSanitizer"
@@ -163,7 +169,7 @@ if command -v clang > /dev/null && command -v wasm-ld > /dev/null && command -v 
     tail -1 "$out/said"
     plugins="$out/plugins/kv.wasm $out/plugins/start.wasm $out/plugins/fails.wasm $out/plugins/plain.wasm"
 else left_out "instances: there is no clang with wasm-ld, wat2wasm or python3"; fi
-# (by hand: another seed, and more sequences)
+# (long.sh has another seed, and more sequences)
 for seed in 1 2; do
     # shellcheck disable=SC2086
     "$out/fuzz" $seed 3000 "$examples"/*.wasm $plugins || fail "random calls, with seed $seed"

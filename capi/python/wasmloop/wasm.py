@@ -278,11 +278,21 @@ class Module:
             at += size
         return {}
 
+    @functools.cached_property
+    def _shown(self) -> Dict[int, str]:
+        """The names of functions by their index, as far as they were asked for."""
+        return {}
+
+    @functools.cached_property
+    def _exported(self) -> Dict[int, str]:
+        return {it: name for name, kind, it in reversed(self.exports) if kind == 0}
+
     def name(self, defined: int) -> str:
         """The name of a function, by its index without the imports, as wasmloop_stop counts."""
         index = defined + len(self.imported)
-        exported = next((name for name, kind, it in self.exports if kind == 0 and it == index), None)
-        return shown(self.names.get(index) or exported or f"function {index}")
+        if index not in self._shown:
+            self._shown[index] = shown(self.names.get(index) or self._exported.get(index) or f"function {index}")
+        return self._shown[index]
 
     def export_bytes(self) -> List[bytes]:
         """The bytes of each export, for a new export section."""

@@ -814,11 +814,13 @@ def page():
     check(set(cells) == {"hello", "trap", "limiter"}, "rows of the page", got[-2000:])
 
     def seconds(text):
-        number, unit = text.split()
+        number, unit = text.split(" of ")[0].split()
         return float(number) * {"ms": 1e-3}.get(unit, 1e-6)
 
     for name, it in cells.items():
         check(it[1] == "ready" and seconds(it[5]) <= seconds(it[6]), "p99 above the worst", name, it)
+    for name, wanted in ("hello", (False, True, False)), ("trap", (True, True, False)):
+        check(tuple(" of " in text for text in cells[name][4:7]) == wanted, "of how many answers p50 and p99 are", name, cells[name])
     check("division by zero" in cells.get("trap", [""])[-1], "the last failure in the page", cells)
     check("<svg" in got and "loop 0 run timer" in got, "the timeline in the page", got[-500:])
     s.end()

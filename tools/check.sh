@@ -18,10 +18,10 @@ try git diff --check HEAD
 if has shellcheck; then files '*.sh' wasmloop .ci/run .ci/nightly | xargs shellcheck --severity=warning || wrong=1; fi
 width=$(sed -n 's/^max_line_length = //p' .editorconfig | head -n 1)
 if has flake8; then files '*.py' | xargs flake8 --max-line-length="$width" || wrong=1; fi
+# (what has no types yet: a folder leaves this list once all of it has them)
+untyped='^bench/|^capi/test/|^capi/make_wheel|^examples/|^hosts/|^trials/'
 if has mypy; then
-    try mypy --strict --no-error-summary --cache-dir=/dev/null capi/python/wasmloop/__init__.py
-    # those without types yet are read, and not checked
-    files 'tools/*.py' | grep -v -e /gate.py -e /prove.py -e /statement.py -e /wrong.py | xargs mypy --strict --no-error-summary --cache-dir=/dev/null || wrong=1
+    { files '*.py' | grep -vE "$untyped"; files trials/dispatch/run.py; } | xargs mypy --strict --no-error-summary --cache-dir=/dev/null || wrong=1
 fi
 if has cc; then for file in capi/wasmloop.c capi/names.c; do try cc -std=c99 -Wall -Wextra -Werror -Icapi/include -fsyntax-only "$file"; done; fi
 exit $wrong

@@ -22,7 +22,8 @@ from pathlib import Path
 from typing import Iterable, Iterator, Optional
 
 import sums
-from audit import Node, Tree, as_line, read
+from audit import as_line
+from reached import Node, Tree, read
 from sources import TOP, asked, finish
 
 FACT = re.compile(r"- ((?:`[a-z_]+::[\w:]+`|`\w+`)[^:]*(?:::[^:]+)*?):(?: |$)")

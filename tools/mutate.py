@@ -16,6 +16,7 @@ from pathlib import Path
 from typing import Iterator, Sequence
 
 import audit
+import reached
 import sums
 from sources import TOP
 
@@ -23,10 +24,10 @@ OTHERS = dict(pair.split() for pair in ('≡ ≢', '≢ ≡', '≤ <', '< ≤', 
 UNREAD = re.compile(r"\s*(--|//|#\[|ghost |pub mod |use |module |infix|\}|\{|$)")
 
 
-def believed(tree: audit.Tree) -> Iterator[tuple[Path, int, tuple[str, ...]]]:
+def believed(tree: reached.Tree) -> Iterator[tuple[Path, int, tuple[str, ...]]]:
     """The lines that are believed: of each its file, its number, and names that it may use."""
     read: dict[Path, list[str]] = {}
-    for node in tree.reach_from(audit.calls_of(tree, audit.listed(audit.read(audit.PAGE)))):
+    for node in tree.reach_from(audit.calls_of(tree, audit.listed(reached.read(audit.PAGE)))):
         if node.is_call and len(sums.clauses_of(node)) == 1:
             continue
         lines, words = read.setdefault(node.file, node.file.read_text().split('\n')), node.words
@@ -70,7 +71,7 @@ def noticed(top: Path) -> list[str]:
 
 def main(count: int, seed: int) -> None:
     chance, found, made = random.Random(seed), 0, 0
-    lines = sorted(set(believed(audit.Tree())))
+    lines = sorted(set(believed(reached.Tree())))
     with tempfile.TemporaryDirectory() as folder:
         top = Path(folder)
         for part in ('crates', 'docs', 'tools'):
@@ -88,7 +89,7 @@ def main(count: int, seed: int) -> None:
             seen = noticed(top)
             shutil.copy(file, copy)
             made, found = made + 1, found + bool(seen)
-            print(f"{kind}: {file.relative_to(audit.CRATES)}:{at + 1} {line.strip()}", flush=True)
+            print(f"{kind}: {file.relative_to(reached.CRATES)}:{at + 1} {line.strip()}", flush=True)
             print(f"    {seen[0]}{f' and {len(seen) - 1} more' if len(seen) > 1 else ''}" if seen else '    NOT NOTICED', flush=True)
     print(f"{found} of {count} changes were noticed")
     sys.exit(found != count)

@@ -13,7 +13,7 @@ import sys
 from typing import Iterator
 
 from rows import ByOpcode, Listed, Place, Row, Types, keep, write
-from sources import Sources, asked, finish, plant
+from sources import Sources, asked, finish, plant, unwritten
 
 TABLE = "tools/operations.txt"
 SORTS = {"Unary": "IntUnary", "Binary": "IntBinary", "Compare": "IntCompare", "Convert": "Conversion"}
@@ -264,11 +264,7 @@ def left_unwritten() -> list[str]:
     """What differs still, of two rows more, once all is written that can be: bodies, tests and meanings, which have `..` or an open bracket."""
     more = "".join(f"c{code}  {of}.swap   {of.upper()}Swap   Unary {of.upper()} Swap   {of} -> {of}\n" for code, of in ((5, "i32"), (6, "i64")))
     sources = Sources({TABLE: Sources().text(TABLE) + more})
-    before = len(list(faults(sources)))
-    write(sources, table(sources), ALL)
-    left = [fault for fault in faults(Sources(sources.changed)) if not re.search(r"\.\.|\(`", fault)]
-    print(f"{'MISSED' if left or before < 30 else 'written'}: two rows more, which {before} places lack{': ' + '; '.join(left) if left else ''}")
-    return left if before >= 30 else ["too few places"]
+    return unwritten("two rows more", 30, sources, faults, lambda it: write(it, table(it), ALL), lambda fault: re.search(r"\.\.|\(`", fault))
 
 
 def main() -> None:

@@ -5,8 +5,11 @@ side by side. The statements and what was checked are kept in the crates' folder
 usage: tools/prove.py CRATE [FLAG..]     the flags are those of `rt check`: --only module::function, --allow-holes, --jobs N
 """
 
+from __future__ import annotations
+
 import os
 import sys
+from typing import List
 
 TOP = os.path.dirname(os.path.dirname(os.path.realpath(__file__)))
 sys.dont_write_bytecode = True
@@ -14,12 +17,12 @@ sys.path.insert(0, TOP)
 import build  # noqa: E402
 
 
-def main(words):
+def main(words: List[str]) -> int:
     build.program_name = "prove.py"
     if not words or not os.path.isdir(f"{TOP}/crates/{words[0]}/src"):
-        print(__doc__.split("\n\n")[1].strip(), file=sys.stderr)
+        print((__doc__ or "").split("\n\n")[1].strip(), file=sys.stderr)
         return 2
-    rtlib = build.has_rt() and build.kit()
+    rtlib = build.kit() if build.has_rt() else None
     if not rtlib:
         build.say("this needs a kit whose rt build.py knows; `rt check` in the crate's folder does the same, one crate after the other")
         return 1

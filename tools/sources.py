@@ -55,6 +55,17 @@ def plant(planted: Sequence[tuple[str, str, str, str]], whole: Texts, faults: Ca
     return missed
 
 
+def unwritten(what: str, least: int, sources: Sources, faults: Callable[[Sources], Iterable[str]], write: Callable[[Sources], None],
+              is_by_hand: Callable[[str], object]) -> list[str]:
+    """What differs still of texts with a row more, which at least so many places lack, once all is written that a machine can write."""
+    before = len(list(faults(sources)))
+    write(sources)
+    left = [fault for fault in faults(Sources(sources.changed)) if not is_by_hand(fault)]
+    left += [] if before >= least else ["too few places"]
+    print(f"{'MISSED' if left else 'written'}: {what}, which {before} places lack{': ' + '; '.join(left) if left else ''}")
+    return left
+
+
 def finish(found: Sequence[str], told: str) -> NoReturn:
     """Prints each fault that was found, then what was looked at and how many faults there are. Ends with status 1 where there is one."""
     for fault in found:

@@ -8,6 +8,8 @@ usage: statement.py                 writes it, of what build.py has proved (dist
                                     one on the same machine it compares the sums of the sources alone, and says how many these are
 """
 
+from __future__ import annotations
+
 import glob
 import hashlib
 import json
@@ -15,6 +17,7 @@ import os
 import re
 import subprocess
 import sys
+from typing import Callable, Dict, Iterable, List, Mapping, Sequence, Set, Union
 
 TOP = os.path.dirname(os.path.dirname(os.path.realpath(__file__)))
 sys.dont_write_bytecode = True
@@ -28,83 +31,87 @@ TOLD = {"functions": int, "axioms": int, "may-wait": int, "may-abort": int}
 REFUSED = re.compile(r"^(?:rt: )?must-fail (\w+/\S+)\.edit: refused, as it must be|^(\w+/\S+): refused: ", re.M)
 
 
-def text_of(path):
+def text_of(path: str) -> str:
     with open(path, encoding="utf-8", errors="replace") as file:
         return file.read()
 
 
-def sums(path):
+def sums(path: str) -> List[List[str]]:
     return [line.split("  ", 1) for line in text_of(path).splitlines()]
 
 
-def bodies():
+def bodies() -> Set[str]:
     """The wrong bodies that the gate tries: those of must-fail/, and those of wrong/ that name the promise which they break."""
     found = glob.glob(f"{TOP}/crates/*/must-fail/*.edit")
     found += [it for it in glob.glob(f"{TOP}/crates/*/wrong/*.edit") if re.search("^# promise: ", text_of(it), re.M)]
     return {f"{it.split('/')[-3]}/{os.path.basename(it)[:-len('.edit')]}" for it in found}
 
 
-def verdict(text):
+def verdict(text: str) -> Dict[str, str]:
     """The words of the last verdict in what rattle printed, which must be that the crate is proved."""
     return dict(re.findall(r"\b([a-z-]+)=(\S+)", re.findall(r"^logic=proved .*", text, re.M)[-1]))
 
 
-def built(crate):
+def built(crate: str) -> Dict[str, str]:
     """What build.py kept of the proof of a crate."""
     return verdict(text_of(f"{TOP}/crates/{crate}/out/build.log"))
 
 
-def statement(proof_of):
+def statement(proof_of: Callable[[str], Mapping[str, str]]) -> Dict[str, object]:
     """The statement. `proof_of` tells the verdict on a crate."""
-    crates, used, logics = [], set(), set()
+    crates: List[Dict[str, object]] = []
+    functions = 0
+    used: Set[str] = set()
+    logics: Set[str] = set()
     for digest, line in sums(f"{TOP}/dist/SOURCES"):
         if "/" not in line:
-            name = re.match(r"\w+", line)[0]
+            name = line.partition(":")[0].partition(" ")[0]
             used.update(line.partition(":")[2].split())
             words = proof_of(name)
             logics.add(words["sum"])
             told = {word: kind(words[word]) for word, kind in TOLD.items() if word in words}
+            functions += int(words["functions"])
             crates.append({"name": name, "sources": {"sha256": digest}, **told})
-    (logic,) = logics
+    (logic,), ours = logics, {it["name"] for it in crates}
     c_files = [{"name": name, "sources": {"sha256": digest}} for digest, name in sums(f"{TOP}/dist/SOURCES") if "/" in name]
     return {
         "_type": "https://in-toto.io/Statement/v1",
         "subject": [{"name": name, "digest": {"sha256": digest}} for digest, name in sums(f"{TOP}/dist/SHA256")],
         "predicateType": "tag:wasmloop,2026:proof/1",
         "predicate": {
-            "version": re.search(r'#define WASMLOOP_VERSION "(.*)"', text_of(f"{TOP}/capi/include/wasmloop.h"))[1],
+            "version": re.findall(r'#define WASMLOOP_VERSION "(.*)"', text_of(f"{TOP}/capi/include/wasmloop.h"))[0],
             "sources": {"sha256": hashlib.sha256(text_of(f"{TOP}/dist/SOURCES").encode()).hexdigest()},
             "prover": {"name": "rattle", "logic": logic},
-            "functions": sum(it["functions"] for it in crates),
+            "functions": functions,
             "editsRefused": len(bodies()),
             "promise": "README.md: What it promises",
             "trusted": "docs/PROOFS.md: What is only tested, What is neither, What is trusted",
             "crates": crates,
-            "librariesOfTheKit": sorted(used - {it["name"] for it in crates}),
+            "librariesOfTheKit": sorted(it for it in used if it not in ours),
             "notProved": c_files,
         },
     }
 
 
-def parts_of(log):
+def parts_of(log: str) -> Dict[str, str]:
     return {name: part for name, part in re.findall(r"^== (\w+)\n(.*?)(?=^== |\Z)", log, re.M | re.S) if "\nlogic=proved " in part}
 
 
-def kept_in(log):
+def kept_in(log: str) -> List[str]:
     return re.findall(r"^rt: (\w+) is kept: ", log, re.M)
 
 
-def as_stated():
+def as_stated() -> Dict[str, Dict[str, str]]:
     """The verdicts that the statement has."""
     made = json.loads(text_of(MADE))["predicate"]
     return {it["name"]: {"sum": made["prover"]["logic"], **{word: str(it[word]) for word in TOLD if word in it}} for it in made["crates"]}
 
 
-def runs_of_rt(paths):
+def runs_of_rt(paths: Iterable[str]) -> List[str]:
     return [it for it in map(text_of, paths) if re.search(r"^\d+ passed, \d+ failed$", it, re.M)]
 
 
-def gate(paths, known):
+def gate(paths: Sequence[str], known: Mapping[str, Mapping[str, str]]) -> Callable[[str], Mapping[str, str]]:
     """What the outputs tell of a crate's proof; `known` are the verdicts on crates that the last run of `rt ci` kept. Ends where not every wrong
     body was refused that the gate tries, or something failed in that run."""
     logs, runs = [text_of(it) for it in paths], runs_of_rt(paths)
@@ -116,17 +123,17 @@ def gate(paths, known):
     return lambda crate: built(crate) if crate in FOR_C else found[crate] if crate in found else known[crate]
 
 
-def write(made):
+def write(made: str) -> int:
     with open(MADE, "w", encoding="utf-8") as file:
         file.write(made)
     return 0
 
 
-def text(proof_of):
+def text(proof_of: Callable[[str], Mapping[str, str]]) -> str:
     return json.dumps(statement(proof_of), indent=1) + "\n"
 
 
-def check(paths):
+def check(paths: Sequence[str]) -> Union[int, str]:
     kept = kept_in("".join(runs_of_rt(paths)[-1:]))
     made = text(gate(paths, {name: words for name, words in as_stated().items() if name in kept}))
     if text_of(MADE) != made:
@@ -136,7 +143,7 @@ def check(paths):
     return 0
 
 
-def main(words):
+def main(words: Sequence[str]) -> Union[int, str]:
     if words[:1] == ["--check"]:
         return check(words[1:])
     return write(text(gate(words[1:], {}) if words[:1] == ["--of"] else built))

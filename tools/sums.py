@@ -17,7 +17,7 @@ from pathlib import Path
 from typing import TYPE_CHECKING, Iterable, Iterator, Sequence
 
 if TYPE_CHECKING:
-    from audit import Node, Scope
+    from reached import Node, Scope
 
 FILE = Path(__file__).resolve().parent.parent / 'docs' / 'AUDIT.sums'
 WORD = r"[^\W\d][\w'-]*(?:\.[^\W\d][\w'-]*)*|\d\w*|\S"

@@ -13,7 +13,7 @@ import sys
 from typing import Iterator, Sequence
 
 from rows import Edit, Place, Row, agree, edited, keep, write
-from sources import Sources, asked, finish, plant
+from sources import Sources, asked, finish, plant, unwritten
 
 HEADER, RUST, PAGE = "examples/uv.h", "examples/uv.rs", "docs/UV.md"
 CALLS, ENTRIES, ANSWERS = "crates/imports/src/call.rt", "crates/imports/src/entry_point.rt", "crates/order/src/uv/answers.rt"
@@ -377,11 +377,7 @@ def left_unwritten() -> list[str]:
     header = Sources().text(HEADER)
     row = "/* Tries. Then more. */\nUV_IMPORT(try_it) int32_t uv_try_it(int32_t handle, uv_callback callback, uint64_t wide);\n\n"
     sources = Sources({HEADER: re.sub(r"(?=/\* Stops the handle and closes it)", row, header)})
-    before = len(list(faults(sources)))
-    written(sources)
-    left = [fault for fault in faults(sources) if not fault.startswith((STEPS, HOST, MODEL))]
-    print(f"{'MISSED' if left or before < 20 else 'written'}: a call more, which {before} places lack{': ' + '; '.join(left) if left else ''}")
-    return left if before >= 20 else ["too few places"]
+    return unwritten("a call more", 20, sources, faults, written, lambda fault: fault.startswith((STEPS, HOST, MODEL)))
 
 
 def main() -> None:

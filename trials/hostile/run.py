@@ -7,61 +7,66 @@ A line each: what it is, the seconds of processor time, the greatest resident me
 second or 64 MiB, or that answers something else than it should, is marked, and the status is then 1. So is a command that says something
 else where a thread has the stack alone that docs/LIMITS.md asks for. What a unit of fuel costs at worst is measured by bench/fuel/run.py.
 """
+
+from __future__ import annotations
+
 import os
 import pathlib
 import subprocess
 import sys
 import tempfile
+from typing import Callable, List, Sequence, Tuple, Union
 
 SIZE = 1024 * 1024
 SECONDS, MEMORY = 1.0, 64 * 1024  # of a check; kibibytes
 STACK = 128  # kibibytes
+Content = Union[str, Callable[[], bytes]]  # a file, or what makes one
 OPENING = b"\0asm\1\0\0\0"
 
 
-def leb(n):
+def leb(n: int) -> bytes:
     return bytes([n]) if n < 128 else bytes([n & 127 | 128]) + leb(n >> 7)
 
 
-def vec(items):
+def vec(items: Sequence[bytes]) -> bytes:
     return leb(len(items)) + b"".join(items)
 
 
-def section(number, contents):
+def section(number: int, contents: bytes) -> bytes:
     return bytes([number]) + leb(len(contents)) + contents
 
 
-def body(code, locals=b"\0"):
+def body(code: bytes, locals: bytes = b"\0") -> bytes:
     whole = locals + code + b"\x0b"
     return leb(len(whole)) + whole
 
 
-def module(bodies, types=(b"\x60\0\0",), before=b"", behind=b"", use=0):
+def module(bodies: Sequence[bytes], types: Sequence[bytes] = (b"\x60\0\0",), before: bytes = b"", behind: bytes = b"", use: int = 0) -> bytes:
     """A module whose functions have these bodies and all the same type."""
     return (OPENING + section(1, vec(list(types))) + section(3, vec([leb(use)] * len(bodies))) + before
             + section(10, vec(bodies)) + behind)
 
 
-def filled(unit, most=SIZE - 100, end=b""):
+def filled(unit: bytes, most: int = SIZE - 100, end: bytes = b"") -> bytes:
     """One body of as many units as a module has room for."""
     return module([body(unit * ((most - len(end)) // len(unit)) + end)])
 
 
-def repeated(inner, count):
+def repeated(inner: bytes, count: int) -> bytes:
     return module([body(inner)] * count)
 
 
-def nested(opening, count=174_000):
+def nested(opening: bytes, count: int = 174_000) -> bytes:
     return module([body(opening * count + b"\x0b" * count)])
 
 
-def tables(labels=4096):
+def tables(labels: int = 4096) -> bytes:
     branch = b"\x41\0\x0e" + leb(labels) + b"\0" * (labels + 1)
     count = (SIZE - 200) // (len(branch) + 3)
     return module([body((b"\x02\x40" + branch + b"\x0b") * count)])
 
 
-def typed_branches():
+def typed_branches() -> bytes:
     """Branches in dead code to a label of 256 operands: each is compared with its types."""
     wide = b"\x60\0" + vec([b"\x7f"] * 16)
     taking = b"\x60" + vec([b"\x7f"] * 240) + b"\0"
@@ -69,39 +74,39 @@ def typed_branches():
     return module([body(code)], types=(b"\x60\0\0", taking, wide))
 
 
-def customs():
+def customs() -> bytes:
     one = b"\0\1\0"
     return OPENING + one * ((SIZE - 8) // 3)
 
 
-def segments(number):
+def segments(number: int) -> bytes:
     head = section(5, b"\1\0\1") if number == 11 else section(4, b"\1\x70\0\1")
     item = b"\0\x41\0\x0b\0"
     count = (SIZE - 60) // len(item)
     return OPENING + head + section(number, leb(count) + item * count)
 
 
-def refused_behind_segments():
+def refused_behind_segments() -> bytes:
     before = section(4, b"\1\x70\0\1") + section(9, leb(190_000) + b"\0\x41\0\x0b\0" * 190_000)
     return module([body(b"\1" * 65_000 + b"\x6a")], before=before)
 
 
-def exports(length=1004):
+def exports(length: int = 1004) -> bytes:
     names = [b"a" * (length - 4) + b"%04d" % k for k in range(1024)]
     listed = vec([leb(length) + name + b"\0\0" for name in names])
     return OPENING + section(1, b"\1\x60\0\0") + section(3, b"\1\0") + section(7, listed) + section(10, vec([body(b"")]))
 
 
-def counted(number):
+def counted(number: int) -> bytes:
     """A section that promises 2^32 - 1 items."""
     return OPENING + section(number, b"\xff\xff\xff\xff\x0f")
 
 
-def locals_of(count):
+def locals_of(count: int) -> bytes:
     return module([body(b"", vec([leb(1) + b"\x7f"] * 256))] * count)
 
 
-MODULES = [
+MODULES: List[Tuple[str, Content, str]] = [
     ("350,000 nested blocks", lambda: nested(b"\x02\x40", 349_000), "validate 11 Nesting"),
     ("174,000 nested ifs", lambda: nested(b"\x41\0\x04\x40"), "validate 11 Nesting"),
     ("blocks 256 deep, one after another", lambda: filled(b"\x02\x40" * 256 + b"\x0b" * 256), "accepted"),
@@ -126,7 +131,7 @@ MODULES = [
 ]
 
 SCRIPT = '{"modules":["%s"],"loops":[{"module":0,"fuel":1,"work_fuel":1,"depth":1}],"workers":0,"steps":[%s]}'
-SCRIPTS = [
+SCRIPTS: List[Tuple[str, Content, str]] = [
     ("5 MB of opening brackets", lambda: b"[" * 5_000_000, "script 1 Json"),
     ("a number of 5 MB", lambda: b"1" * 5_000_000, "script 2 Shape"),
     ("500,000 keys", lambda: b"{" + b",".join(b'"%d":0' % k for k in range(500_000)) + b"}", "script 2 Shape"),
@@ -136,10 +141,10 @@ SCRIPTS = [
 ]
 
 
-ROWS = [("check", *row) for row in MODULES] + [("script", *row) for row in SCRIPTS]
+ROWS: List[Tuple[str, str, Content, str]] = [("check", *row) for row in MODULES] + [("script", *row) for row in SCRIPTS]
 
 
-def run(command):
+def run(command: Sequence[str]) -> Tuple[float, int, List[str]]:
     """Processor seconds, resident kibibytes and output of a command, in 4 GiB of address space."""
     with tempfile.TemporaryFile() as out:
         child = subprocess.Popen(["prlimit", f"--as={4 << 30}", *command], stdout=out, stderr=out)
@@ -148,7 +153,7 @@ def run(command):
         return used.ru_utime + used.ru_stime, used.ru_maxrss, out.read(200).decode(errors="replace").splitlines()
 
 
-def show(program, number, file):
+def show(program: str, number: int, file: str) -> bool:
     """Prints the line of a row, and tells whether it is as it should be."""
     command, what, content, wanted = ROWS[number]
     if not isinstance(content, str):
@@ -173,7 +178,7 @@ ON_SMALL_STACKS = [
 ]
 
 
-def show_on_small_stack(program, words):
+def show_on_small_stack(program: str, words: Sequence[str]) -> bool:
     """Prints the line of a command whose threads have little stack, and tells whether it says what it says with more."""
     command = [program, words[0], str(EXAMPLES / words[1]), *words[2:]]
     most, least = (subprocess.run(["prlimit", f"--stack={size << 10}", *command], capture_output=True) for size in (8192, STACK))
@@ -183,9 +188,11 @@ def show_on_small_stack(program, words):
     return is_good
 
 
-def main():
+def main() -> None:
     if sys.argv[1:2] == ["--make"]:
-        pathlib.Path(sys.argv[3]).write_bytes(ROWS[int(sys.argv[2])][2]())
+        content = ROWS[int(sys.argv[2])][2]
+        if not isinstance(content, str):
+            pathlib.Path(sys.argv[3]).write_bytes(content())
         return
     if len(sys.argv) != 2:
         sys.exit(__doc__)

@@ -8,11 +8,15 @@ A guest asks for one piece of work, a loop that counts down; all loops together 
 processor time of all: a single one that spins takes a tenth or more, those that wait half a hundredth. All times are of one run, so that
 a machine that is busy or slow changes nothing.
 """
+
+from __future__ import annotations
+
 import os
 import subprocess
 import sys
 import tempfile
 import time
+from typing import Dict, IO, List, Sequence
 
 # turns of all loops together, each of 6 units
 TURNS = 50_000_000
@@ -31,7 +35,7 @@ HEAD = bytes.fromhex(
 SHAPES = [(8, 16), (8, 1), (1, 16)]
 
 
-def guest(turns):
+def guest(turns: int) -> bytes:
     """uv_main asks for one piece of work of so many turns, of less than 2^27."""
     number = bytes([turns & 127 | 128, turns >> 7 & 127 | 128, turns >> 14 & 127 | 128, turns >> 21])
     main = bytes([0x00, 0x41]) + number + bytes.fromhex("4100410010001a0b")
@@ -39,9 +43,9 @@ def guest(turns):
     return HEAD + bytes([0x0A, len(code)]) + code
 
 
-def times_of(process):
+def times_of(process: int) -> Dict[str, float]:
     """The processor time in seconds that each thread of a process has taken so far, by its number."""
-    times = {}
+    times: Dict[str, float] = {}
     folder = f"/proc/{process}/task"
     try:
         for thread in os.listdir(folder):
@@ -53,9 +57,9 @@ def times_of(process):
     return times
 
 
-def spent(words, out):
+def spent(words: Sequence[str], out: IO[str]) -> List[float]:
     """The processor time of each thread of a command, as last seen, from the longest on."""
-    times = {}
+    times: Dict[str, float] = {}
     with subprocess.Popen(words, stdout=out) as ran:
         while ran.poll() is None:
             times.update(times_of(ran.pid))
@@ -63,7 +67,7 @@ def spent(words, out):
     return sorted(times.values(), reverse=True)
 
 
-def main(words):
+def main(words: List[str]) -> int:
     if len(words) != 1:
         print(__doc__)
         return 2

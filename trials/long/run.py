@@ -7,6 +7,9 @@ Each round has to print `loop k over emits 400 0` for each loop: 400 requests we
 wrong. Every minute a line has the rounds so far and the greatest resident memory of the minute's rounds. The status is
 1 where a line differs.
 """
+
+from __future__ import annotations
+
 import argparse
 import os
 import pathlib
@@ -15,11 +18,12 @@ import subprocess
 import sys
 import tempfile
 import time
+from typing import List, Optional
 
 HERE = pathlib.Path(__file__).resolve().parent
 
 
-def round_of(command, wanted):
+def round_of(command: List[str], wanted: str) -> Optional[int]:
     """The resident memory of one round in KiB; None where it printed something else."""
     with tempfile.TemporaryFile() as out:
         child = subprocess.Popen(command, stdout=out, stderr=out)
@@ -27,12 +31,12 @@ def round_of(command, wanted):
         out.seek(0)
         said = out.read().decode()
     if status == 0 and said == wanted:
-        return used.ru_maxrss
+        return int(used.ru_maxrss)
     print(f"status {status}: {said}", flush=True)
     return None
 
 
-def main():
+def main() -> None:
     parser = argparse.ArgumentParser()
     parser.add_argument("program")
     parser.add_argument("--minutes", type=float, default=60)

@@ -6,29 +6,34 @@
 A rule is a sentence, a guest in C on examples/uv.h, a list of steps for examples/script.py, and what its log must say:
 all lines of the kinds that are given, in order, without `used N`.
 """
+
+from __future__ import annotations
+
 import os
 import pathlib
 import re
 import subprocess
 import sys
 import tempfile
+from typing import List, Tuple
 
 HERE = pathlib.Path(__file__).resolve().parent
 EXAMPLES = HERE.parents[1] / "examples"
-RULES = []
+RULES: List[Tuple[str, str, str, str, int, str, int, int, str]] = []
 
 
-def rule(sentence, guest, steps, log, workers=0, loops="g.wasm", fuel=100000, work_fuel=100000, clang=""):
+def rule(sentence: str, guest: str, steps: str, log: str, workers: int = 0, loops: str = "g.wasm", fuel: int = 100000, work_fuel: int = 100000,
+         clang: str = "") -> None:
     RULES.append((sentence, guest, steps, log, workers, loops, fuel, work_fuel, clang))
 
 
-def kind(line):
+def kind(line: str) -> str:
     """`loop run`, `loop enter`, `post` and so on."""
     words = line.split()
     return " ".join(words[0:3:2]) if words[0] == "loop" else words[0]
 
 
-def run(folder, program, number):
+def run(folder: pathlib.Path, program: str, number: int) -> bool:
     sentence, guest, steps, log, workers, loops, fuel, work_fuel, clang = RULES[number]
     if guest.startswith("(module"):
         (folder / "g.wat").write_text(guest)
@@ -38,7 +43,7 @@ def run(folder, program, number):
         subprocess.run(["sh", EXAMPLES / "build.sh", folder / "g"], env={**os.environ, "CFLAGS": f"-w {clang}"}, check=True)
     head = f"loops {loops}\nworkers {workers}\nfuel {fuel}\nwork_fuel {work_fuel}\n"
     (folder / "g.steps").write_text(head + steps)
-    make = [sys.executable, EXAMPLES / "script.py", folder / "g.steps"]
+    make = [sys.executable, str(EXAMPLES / "script.py"), str(folder / "g.steps")]
     (folder / "g.json").write_bytes(subprocess.run(make, capture_output=True, check=True).stdout)
     ran = subprocess.run([program, "script", folder / "g.json"], capture_output=True, text=True)
     said = [re.sub(r" used \d+", "", line) for line in ran.stdout.splitlines()]
@@ -330,7 +335,7 @@ rule("The traps of uv.h: what each number says of a C program.",
      workers=1)
 
 
-def main():
+def main() -> None:
     if len(sys.argv) != 2:
         sys.exit(__doc__)
     with tempfile.TemporaryDirectory() as name:

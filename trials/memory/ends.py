@@ -8,12 +8,16 @@ and REFUSE the library of refuse.c. Each command is run with its first allocatio
 run in which none is refused. Every run has to end as with memory or by a named want of memory. The status is 1 if
 one ends otherwise, or where a named end never came.
 """
+
+from __future__ import annotations
+
 import collections
 import os
 import pathlib
 import subprocess
 import sys
 import tempfile
+from typing import Dict, Iterable, List, Mapping, NamedTuple, Optional, Tuple
 
 EXAMPLES = pathlib.Path(__file__).resolve().parents[2] / "examples"
 
@@ -25,9 +29,23 @@ SECONDS = 60
 # The allocations of `serve` come in another order each time, so that it is gone through more than once.
 SERVE_ROUNDS = 3
 
-End = collections.namedtuple("End", "out err status")
 
-Command = collections.namedtuple("Command", "name words whole others")
+class End(NamedTuple):
+    """How a run ended."""
+
+    out: str
+    err: str
+    status: int
+
+
+class Command(NamedTuple):
+    """What is run, how it ends with all memory, and how it may end without some of it."""
+
+    name: str
+    words: List[str]
+    whole: End
+    others: Dict[str, End]
+
 
 MEMORY = End("", "memory\n", 1)
 
@@ -78,7 +96,7 @@ loop 0 over
 """
 
 
-def done(text):
+def done(text: str) -> End:
     return End(text, "", 0)
 
 
@@ -94,7 +112,7 @@ COMMANDS = [
 ]
 
 
-def serve_lines(*values):
+def serve_lines(*values: str) -> End:
     """What `serve` prints of loops that emit these values: 6, or -12 where the work had no memory, or none."""
     return done("".join(f"loop {loop} over emits{value}\n" for loop, value in enumerate(values)))
 
@@ -126,7 +144,7 @@ class Wrong(Exception):
     pass
 
 
-def run(program, refuse, words, number):
+def run(program: str, refuse: str, words: List[str], number: int) -> Tuple[End, bool]:
     """How the program ends with the allocation of this number refused, and whether it came to that allocation."""
     with tempfile.TemporaryDirectory() as folder:
         mark = os.path.join(folder, "mark")
@@ -141,7 +159,7 @@ def run(program, refuse, words, number):
         return end, os.path.exists(mark)
 
 
-def is_stopped(command, end):
+def is_stopped(command: Command, end: End) -> bool:
     """Whether a script's log is cut behind some of its lines, and a fault is told there."""
     if end.err or end.status != 1 or not end.out.endswith(FAULT):
         return False
@@ -150,7 +168,7 @@ def is_stopped(command, end):
     return len(told) < len(whole) and told == whole[: len(told)]
 
 
-def name_of(command, end, is_script):
+def name_of(command: Command, end: End, is_script: bool) -> Optional[str]:
     """The name of this end of a run that was refused memory."""
     if is_script and is_stopped(command, end):
         return "fault 2"
@@ -161,34 +179,35 @@ def name_of(command, end, is_script):
     return None
 
 
-def refuse_in_turn(program, refuse, command, is_script):
+def refuse_in_turn(program: str, refuse: str, command: Command, is_script: bool) -> Dict[int, str]:
     """The names of the ends, by the number of the refused allocation. The run without refusal isn't among them."""
-    names = {}
+    names: Dict[int, str] = {}
     for number in range(1, MOST_RUNS):
         end, is_refused = run(program, refuse, command.words, number)
         if not is_refused:
             if end != command.whole:
                 raise Wrong(f"{command.name}: with memory: {end}")
             return names
-        names[number] = name_of(command, end, is_script)
-        if names[number] is None:
+        name = name_of(command, end, is_script)
+        if name is None:
             raise Wrong(f"{command.name}: allocation {number} refused: {end}")
+        names[number] = name
     raise Wrong(f"{command.name}: no run without refusal")
 
 
-def tell(command, names):
+def tell(command: Command, names: Mapping[int, str]) -> None:
     counts = collections.Counter(names.values())
     told = ", ".join(f"{count} {name}" for name, count in counts.items())
     print(f"{command.name}: {len(names) + 1} runs: {told}, 1 with all memory", flush=True)
 
 
-def expect(command, names, expected):
+def expect(command: Command, names: Mapping[int, str], expected: Iterable[str]) -> None:
     for name in expected:
         if name not in names.values():
             raise Wrong(f"{command.name}: no run ended so: {name}")
 
 
-def go_on(program, refuse, command, names):
+def go_on(program: str, refuse: str, command: Command, names: Mapping[int, str]) -> None:
     """Where a step found no memory, the run goes on to the whole log."""
     stopped = [number for number, name in names.items() if name == "fault 2"]
     for number in stopped:
@@ -198,7 +217,7 @@ def go_on(program, refuse, command, names):
     print(f"{command.name}: {len(stopped)} runs went on behind a fault to the whole log", flush=True)
 
 
-def refuse_all(program, going_on, refuse):
+def refuse_all(program: str, going_on: str, refuse: str) -> None:
     for command in COMMANDS:
         names = refuse_in_turn(program, refuse, command, False)
         tell(command, names)
@@ -214,7 +233,7 @@ def refuse_all(program, going_on, refuse):
         go_on(going_on, refuse, command, names)
 
 
-def main(words):
+def main(words: List[str]) -> int:
     if len(words) != 3:
         print(__doc__)
         return 2

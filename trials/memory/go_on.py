@@ -5,8 +5,12 @@
 
 RUNNING is the file running.rt of the crate `scripting`, which is changed in place.
 """
+
+from __future__ import annotations
+
 import pathlib
 import sys
+from typing import List
 
 RUN = """\
     let ran = world.run(steps, &mut log);
@@ -21,7 +25,7 @@ RUN_AND_GO_ON = """\
 """
 
 
-def main(words):
+def main(words: List[str]) -> int:
     if len(words) != 1:
         print(__doc__)
         return 2

@@ -7,6 +7,9 @@ Each program is compiled by clang to a module, at -O1, -O2 and -Os in turn, and 
 Natively a program may take a second: one that takes longer is left out. Sources that differ are kept in FOLDER. Debian's packages are
 csmith, libcsmith-dev, wasi-libc, clang, lld and gcc. The last line has the counts; status 1: something differs.
 """
+
+from __future__ import annotations
+
 import argparse
 import collections
 import pathlib
@@ -15,7 +18,8 @@ import shutil
 import sys
 import tempfile
 
-from outcome import LINK, WASM, Late, by_program, need, said
+from outcome import LINK, WASM, Late, Word, by_program, need, said
+from typing import Counter, Sequence
 
 NATIVE = pathlib.Path(__file__).resolve().parents[2] / "bench" / "kernels" / "native.c"
 INCLUDE = "-I/usr/include/csmith"
@@ -34,13 +38,13 @@ uint32_t run(void) { csmith_main(1, 0); return crc32_context; }
 """
 
 
-def source(seed):
+def source(seed: int) -> str:
     """The text of a program, whose constants have no L: a long has 32 bits in a module and 64 on the host."""
     text, _ = said(["csmith", "--seed", str(seed), "--max-funcs", "8"], 60)
     return BEGIN + re.sub(r"\b(0x[0-9A-Fa-f]+|\d+)(U?)L\b", r"\1\2", text) + END
 
 
-def natively(file, folder):
+def natively(file: pathlib.Path, folder: pathlib.Path) -> str:
     """The checksum by gcc and the host."""
     made = folder / "native"
     ran(["gcc", "-O1", "-w", INCLUDE, "-o", made, file, NATIVE])
@@ -48,18 +52,18 @@ def natively(file, folder):
     return f"return {signed(int(told.split()[0]))}" if status == 0 else f"status {status}"
 
 
-def ran(command):
+def ran(command: Sequence[Word]) -> None:
     """Runs a compiler, which has to take the file."""
     told, status = said(command, 60)
     if status != 0:
         sys.exit(f"{command[0]}: {told}")
 
 
-def signed(number):
+def signed(number: int) -> int:
     return number - (1 << 32) if number >> 31 else number
 
 
-def compared(program, seed, folder):
+def compared(program: str, seed: int, folder: pathlib.Path) -> str:
     """How a program of csmith ends: the same, or how it differs, or why it is left out."""
     file, made, module = folder / f"{seed}.c", folder / "program.o", folder / "program.wasm"
     try:
@@ -75,15 +79,15 @@ def compared(program, seed, folder):
     return "the same" if given == wanted else f"DIFFERS: {given}, natively {wanted}"
 
 
-def main():
-    parser = argparse.ArgumentParser(description=__doc__.split("\n")[0])
+def main() -> int:
+    parser = argparse.ArgumentParser(description=(__doc__ or "").split("\n")[0])
     parser.add_argument("program")
     parser.add_argument("--first", type=int, default=1)
     parser.add_argument("--count", type=int, default=100)
     parser.add_argument("--keep", type=pathlib.Path, default=pathlib.Path("csmith-differences"))
     options = parser.parse_args()
     need("csmith", "clang", "wasm-ld", "gcc")
-    counts = collections.Counter()
+    counts: Counter[str] = collections.Counter()
     with tempfile.TemporaryDirectory() as name:
         for seed in range(options.first, options.first + options.count):
             end = compared(options.program, seed, pathlib.Path(name))

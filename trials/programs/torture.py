@@ -8,6 +8,9 @@ compiles to a module without floats and imports is run. It has to pass, that is 
 isn't gcc), V8 has to end it in the same way. Debian's packages are wasi-libc, clang, lld and node. The last line has the counts;
 status 1: something differs.
 """
+
+from __future__ import annotations
+
 import argparse
 import collections
 import concurrent.futures
@@ -17,7 +20,8 @@ import subprocess
 import sys
 import tempfile
 
-from outcome import HERE, LINK, WASM, Late, by_program, by_v8, need, said
+from outcome import HERE, LINK, WASM, Late, Word, by_program, by_v8, need, said
+from typing import Counter, List, Optional, Tuple
 
 PACKAGE = "gcc-12-source"
 # The program has 120 seconds, and takes up to some 40 times as long as V8 at its best.
@@ -27,7 +31,7 @@ MAINS = ["__main_void", "__original_main", "__main_argc_argv"]
 LEFT_OUT = {"decode 11": "floats", "link": "imports", "decode 12": "a named limit", "validate 10": "a named limit", "validate 11": "a named limit"}
 
 
-def fetch(out):
+def fetch(out: pathlib.Path) -> pathlib.Path:
     """The folder of the tests."""
     tests = out / "gcc" / "testsuite" / "gcc.c-torture" / "execute"
     if not tests.is_dir():
@@ -39,25 +43,25 @@ def fetch(out):
     return tests
 
 
-def built(file, level, folder):
+def built(file: pathlib.Path, level: str, folder: pathlib.Path) -> Optional[Tuple[pathlib.Path, str]]:
     """The module and the name of its main function; None where clang or the linker doesn't take it."""
     made, module = folder / f"{file.stem}.o", folder / f"{file.stem}.wasm"
     status = said([*WASM, level, "-std=gnu89", "-c", "-o", made, file], 120)[1]
     if status != 0:
         return None
     exports = [f"--export-if-defined={main}" for main in MAINS]
-    libraries = ["-L/usr/lib/wasm32-wasi", folder / "torture.o", "-lc", builtins()]
+    libraries: List[Word] = ["-L/usr/lib/wasm32-wasi", folder / "torture.o", "-lc", builtins()]
     if said([*LINK, *exports, "-o", module, made, *libraries], 60)[1] != 0:
         return None
     bytes_ = module.read_bytes()
     return module, next(main for main in MAINS if main.encode() in bytes_)
 
 
-def builtins():
+def builtins() -> str:
     return said(["clang", "--target=wasm32-wasi", "-print-libgcc-file-name"], 60)[0]
 
 
-def outcome(program, file, level, folder):
+def outcome(program: str, file: pathlib.Path, level: str, folder: pathlib.Path) -> str:
     """`passes`, or that V8 ends it in the same way, or how it differs, or why it is left out."""
     made = built(file, level, folder)
     if made is None:
@@ -77,22 +81,22 @@ def outcome(program, file, level, folder):
     return "fails in V8 too" if given == theirs else f"DIFFERS: {given}, in V8 {theirs}"
 
 
-def tried(program, file, level, folder):
+def tried(program: str, file: pathlib.Path, level: str, folder: pathlib.Path) -> Tuple[pathlib.Path, str]:
     try:
         return file, outcome(program, file, level, folder)
     except Late as late:
         return file, f"left out: {pathlib.Path(str(late)).name} takes too long"
 
 
-def main():
-    parser = argparse.ArgumentParser(description=__doc__.split("\n")[0])
+def main() -> int:
+    parser = argparse.ArgumentParser(description=(__doc__ or "").split("\n")[0])
     parser.add_argument("program")
     parser.add_argument("out", nargs="?", type=pathlib.Path)
     parser.add_argument("--level", default="-O2")
     parser.add_argument("--jobs", type=int, default=os.cpu_count())
     options = parser.parse_args()
     need("clang", "wasm-ld", "node", "apt-get")
-    counts = collections.Counter()
+    counts: Counter[str] = collections.Counter()
     with tempfile.TemporaryDirectory() as name, concurrent.futures.ThreadPoolExecutor(options.jobs) as pool:
         folder = pathlib.Path(name)
         out = options.out or folder

@@ -8,6 +8,9 @@ integers take the place of its floats (../spec/wasm.py). Each export is called t
 instance. Modules that differ are kept in FOLDER. Debian's packages are binaryen and node. The last lines have the counts; status 1:
 something differs.
 """
+
+from __future__ import annotations
+
 import argparse
 import collections
 import pathlib
@@ -16,22 +19,23 @@ import shutil
 import sys
 import tempfile
 
-from outcome import HERE, Late, by_program, by_v8, need, said
+from outcome import HERE, Late, Word, by_program, by_v8, need, said
+from typing import Counter, Iterator, List, Optional, Sequence, Tuple
 
 sys.path.insert(0, str(HERE.parent / "spec"))
 from wasm import FUNCTION, I32, I64, Module, Outside, without_floats  # noqa: E402
 
-LEVELS = [[], ["-O1"], ["-O3"], ["-Os"], ["--flatten"]]
+LEVELS: List[List[str]] = [[], ["-O1"], ["-O3"], ["-Os"], ["--flatten"]]
 LIMITS = ("decode 12", "validate 6", "validate 10", "validate 11", "link 5")
 TIMES = 3
 
 
-def made(rng, seed, folder):
+def made(rng: random.Random, seed: int, folder: pathlib.Path) -> Optional[pathlib.Path]:
     """A random module; None where wasm-opt makes none, or one that can't be changed."""
     bytes_, module = folder / "bytes", folder / f"{seed}.wasm"
     bytes_.write_bytes(rng.randbytes(rng.randrange(200, 6000)))
     features = ["--mvp-features", "--enable-sign-ext", *["--enable-multivalue"] * (seed % 2)]
-    command = ["wasm-opt", "-ttf", bytes_, "-o", module, *features, *rng.choice(LEVELS)]
+    command: List[Word] = ["wasm-opt", "-ttf", bytes_, "-o", module, *features, *rng.choice(LEVELS)]
     if said(command, 60)[1] != 0:
         return None
     try:
@@ -41,7 +45,7 @@ def made(rng, seed, folder):
     return module
 
 
-def calls(rng, module):
+def calls(rng: random.Random, module: pathlib.Path) -> Iterator[Tuple[List[str], str]]:
     """The name and the values of each call, as words for the program and as one for V8."""
     parts = Module(module.read_bytes())
     for export, kind, place in parts.exports * TIMES:
@@ -53,12 +57,12 @@ def calls(rng, module):
         yield [export.decode(), *values], word
 
 
-def number(rng, bits):
+def number(rng: random.Random, bits: int) -> int:
     """A random number without a sign, near 0 or a signed end as often as not."""
     return (rng.choice([0, 1 << (bits - 1), rng.getrandbits(bits)]) + rng.randrange(-2, 3)) % (1 << bits)
 
 
-def compared(program, rng, seed, folder):
+def compared(program: str, rng: random.Random, seed: int, folder: pathlib.Path) -> List[str]:
     """How each call ended, or why the module is left out."""
     module = made(rng, seed, folder)
     if module is None:
@@ -75,21 +79,21 @@ def compared(program, rng, seed, folder):
     return [same(by_program(program, module, *words), end, words) for (words, _), end in zip(tried, theirs)]
 
 
-def same(ours, theirs, words):
+def same(ours: str, theirs: str, words: Sequence[str]) -> str:
     if "depth" in (ours.split(" ")[0], theirs):
         return "left out: a call too deep"
     return "the same" if ours == theirs else f"DIFFERS: {' '.join(words)}: {ours}, in V8 {theirs}"
 
 
-def main():
-    parser = argparse.ArgumentParser(description=__doc__.split("\n")[0])
+def main() -> int:
+    parser = argparse.ArgumentParser(description=(__doc__ or "").split("\n")[0])
     parser.add_argument("program")
     parser.add_argument("--first", type=int, default=0)
     parser.add_argument("--count", type=int, default=100)
     parser.add_argument("--keep", type=pathlib.Path, default=pathlib.Path("ttf-differences"))
     options = parser.parse_args()
     need("wasm-opt", "node")
-    counts = collections.Counter()
+    counts: Counter[str] = collections.Counter()
     with tempfile.TemporaryDirectory() as name:
         for seed in range(options.first, options.first + options.count):
             try:

@@ -11,6 +11,9 @@ and else of the end that its work has with this fuel. What came is counted; the 
 else. With one worker, 0 and then -16 is what threads show and no script: the worker drops request 2 and starts request 3
 within one callback.
 """
+
+from __future__ import annotations
+
 import argparse
 import collections
 import itertools
@@ -19,6 +22,7 @@ import re
 import subprocess
 import sys
 import tempfile
+from typing import Counter, List, Optional, Sequence, Tuple
 
 HERE = pathlib.Path(__file__).resolve().parent
 
@@ -51,14 +55,14 @@ SHAPES = [(1, 1), (1, 2), (1, 16), (3, 1), (8, 1), (8, 16)]
 BUSY = -16
 
 
-def compiled(folder, number, callback, work):
+def compiled(folder: pathlib.Path, number: int, callback: int, work: int) -> pathlib.Path:
     """A guest that takes so long."""
     (folder / f"{number}.c").write_text(f"#define CALLBACK {callback}\n#define WORK {work}\n" + GUEST)
     subprocess.run(["sh", HERE.parents[1] / "examples" / "build.sh", folder / str(number)], check=True)
     return folder / f"{number}.wasm"
 
 
-def may_be(emits, kind):
+def may_be(emits: Sequence[int], kind: int) -> bool:
     """Whether a loop may emit this, where work ends so."""
     if len(emits) != 5 or not {*emits[:2]} <= {0, BUSY}:
         return False
@@ -66,30 +70,32 @@ def may_be(emits, kind):
     return sorted(emits[2:]) == [100 + kind, 200 + second, 300 + third]
 
 
-def signed(word):
+def signed(word: str) -> int:
     """A value as a signed number, however it is printed."""
     return (int(word) + 2**63) % 2**64 - 2**63
 
 
-def outcomes(printed, loops):
+def outcomes(printed: str, loops: int) -> Optional[List[Tuple[int, ...]]]:
     """What each loop emitted; None where a line is another."""
     lines = [re.fullmatch(r"loop (\d+) over emits((?: -?\d+)*)", line) for line in printed.splitlines()]
-    if None in lines or [int(line[1]) for line in lines] != [*range(loops)]:
+    told = [line for line in lines if line]
+    if None in lines or [int(line[1]) for line in told] != [*range(loops)]:
         return None
-    return [tuple(map(signed, line[2].split())) for line in lines]
+    return [tuple(map(signed, line[2].split())) for line in told]
 
 
-def main():
+def main() -> None:
     parser = argparse.ArgumentParser()
     parser.add_argument("program")
     parser.add_argument("--runs", type=int, default=2000)
     options = parser.parse_args()
-    seen, only_threads = collections.Counter(), 0
+    seen: Counter[Tuple[int, ...]] = collections.Counter()
+    only_threads = 0
     with tempfile.TemporaryDirectory() as name:
         guests = [compiled(pathlib.Path(name), number, *times) for number, times in enumerate(TIMES)]
         cases = itertools.cycle(itertools.product(SHAPES, FUELS, guests))
         for (loops, workers), (fuel, kind), guest in itertools.islice(cases, options.runs):
-            words = [guest, "--loops", str(loops), "--workers", str(workers), "--work-fuel", str(fuel)]
+            words = [str(guest), "--loops", str(loops), "--workers", str(workers), "--work-fuel", str(fuel)]
             ran = subprocess.run([options.program, "serve", *words], capture_output=True, text=True)
             emitted = outcomes(ran.stdout, loops)
             if ran.returncode != 0 or emitted is None or not all(may_be(one, kind) for one in emitted):

@@ -4,16 +4,21 @@
 MODULES is the folder of that name which run.sh leaves in OUT. A few of its files are run by the program, which has to agree, and by
 the same program with its answers changed in one way; then something has to differ. Status 1: a lie went unnoticed.
 """
+
+from __future__ import annotations
+
 import pathlib
 import shutil
 import subprocess
 import sys
 import tempfile
+from typing import Tuple
 
 HERE = pathlib.Path(__file__).resolve().parent
 FILES = ["block", "align", "traps"]
 LIAR = """#!{python} -IS
 import re, subprocess, sys
+from typing import Tuple
 done = subprocess.run([{program!r}, *sys.argv[1:]], capture_output=True, text=True)
 told, status = done.stdout or done.stderr, done.returncode
 {lie}
@@ -35,14 +40,14 @@ LIES = {
 }
 
 
-def differences(program, folder):
+def differences(program: pathlib.Path, folder: pathlib.Path) -> Tuple[int, bool]:
     """How many commands differ, and whether the runner's status says so."""
     done = subprocess.run([sys.executable, HERE / "spec.py", program, folder], capture_output=True, text=True)
     differed = int(done.stdout.splitlines()[-1].split(" agreed, ")[1].split()[0])
     return differed, done.returncode == (1 if differed else 0)
 
 
-def main(program, modules):
+def main(program: str, modules: pathlib.Path) -> int:
     unnoticed = 0
     with tempfile.TemporaryDirectory() as name:
         folder = pathlib.Path(name)

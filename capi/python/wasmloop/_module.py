@@ -86,7 +86,7 @@ class Module(_Held):
             raise Error(NONE, f"{_no_function(name)}: {self._functions()}")
         if status != OK:
             raise _failed(status, "function", self.handle)
-        return [32 * it for it in told.param[: told.params]], [32 * it for it in told.result[: told.results]]
+        return _types(told)
 
     def _export_at(self, number: int) -> Optional[Export]:
         name, listed, told = b"", _Listed(), _Signature()
@@ -98,8 +98,7 @@ class Module(_Held):
             if status != OK:
                 raise _failed(status, "export_at", self.handle)
             name = room.raw[: listed.length]
-        types = [32 * it for it in told.param[: told.params]], [32 * it for it in told.result[: told.results]]
-        return name.decode(), ("function", "table", "memory", "global")[listed.kind], None if listed.kind else types
+        return name.decode(), ("function", "table", "memory", "global")[listed.kind], None if listed.kind else _types(told)
 
     def _first_exports(self, most: int) -> List[Export]:
         found: List[Export] = []
@@ -273,6 +272,11 @@ class Call:
     def result(self) -> Union[None, int, Tuple[int, ...]]:
         """What Instance.call returns or raises, once the call is over."""
         return self._instance._results(self._name, self._whole())
+
+
+def _types(told: _Signature) -> Tuple[List[int], List[int]]:
+    """The bits of each parameter, and of each result."""
+    return [32 * it for it in told.param[: told.params]], [32 * it for it in told.result[: told.results]]
 
 
 def _level_outside() -> int:

@@ -2,12 +2,15 @@
 
 from __future__ import annotations
 
+import functools
+import glob
 import os
 import re
 from typing import Dict, Iterable, List, Mapping, NamedTuple, Optional, Sequence, Tuple, Union
 
 PARTS = ("src", "specs", "proofs")
 FN = re.compile(r'^(\s*)(?:pub(?:\([a-z]+\))? )?(?:const )?(?:unsafe )?(?:extern "C" )?fn (\w+)')
+TYPE = re.compile(r"(?m)^(?:pub(?:\([a-z]+\))? )?(?:struct|enum|union) (\w+)")
 CLAUSE = re.compile(r"\s*(?:requires|ensures|ghost|where|measure|decreases|#\[|///)")
 PROMISE = re.compile(r"(?m)^# promise: (\S.*)$")
 WANTED = re.compile(r"(?m)^# refused: (\S+): (\S.*)$")
@@ -43,7 +46,8 @@ class Edit:
         self.wanted = {function: goals.split(", ") for function, goals in WANTED.findall(text)}
         self.pairs = pairs_of(text)
         self.fault = self.fault_in({})
-        found = [] if self.fault else [place_in(file, text_of(f"{self.folder}/{file}"), old) for file, old, _ in self.pairs]
+        homes = homes_in(self.folder)
+        found = [] if self.fault else [place_in(file, text_of(f"{self.folder}/{file}"), old, homes) for file, old, _ in self.pairs]
         self.alone: Optional[str] = self.fault or next((it for it in found if isinstance(it, Alone)), None)
         self.places = [] if self.alone else [it for it in found if isinstance(it, Place)]
         self.functions = list(self.wanted) if self.alone else list(dict.fromkeys(it.name for it in self.places))
@@ -89,7 +93,24 @@ def pairs_of(text: str) -> List[Tuple[str, str, str]]:
     return pairs
 
 
-def place_in(file: str, text: str, old: str) -> Union[Place, Alone]:
+@functools.lru_cache(maxsize=None)
+def homes_in(folder: str) -> Mapping[str, List[str]]:
+    """For each type of a crate the modules that it is defined in."""
+    homes = {}
+    for path in glob.glob(f"{folder}/src/**/*.rt", recursive=True):
+        for name in TYPE.findall(text_of(path)):
+            homes[name] = modules_of(os.path.relpath(path, folder))
+    return homes
+
+
+def modules_of(file: str) -> List[str]:
+    """The modules of a file src/.. below its crate."""
+    inside = file[len("src/"): -len(".rt")]
+    inside = inside[: -len("/mod")] if inside.endswith("/mod") else inside
+    return [] if inside in ("lib", "main") else inside.split("/")
+
+
+def place_in(file: str, text: str, old: str, homes: Mapping[str, List[str]]) -> Union[Place, Alone]:
     """The function whose body has this text, or why there is none."""
     if not file.startswith("src/"):
         return Alone("it changes more than code")
@@ -104,24 +125,21 @@ def place_in(file: str, text: str, old: str) -> Union[Place, Alone]:
     above = attributes(lines, head)
     if any("cycle(" in it for it in above):
         return Alone("its function is in a cycle")
-    name = named(file, lines, head)
+    name = named(file, lines, head, homes)
     return name if isinstance(name, Alone) else Place(name, file, head + 1 - len(above), closed + 1)
 
 
-def named(file: str, lines: Sequence[str], head: int) -> str:
-    """The function's name below its crate, or why it has none that is known."""
-    inside = file[len("src/"): -len(".rt")]
-    inside = inside[: -len("/mod")] if inside.endswith("/mod") else inside
-    modules = [] if inside in ("lib", "main") else inside.split("/")
+def named(file: str, lines: Sequence[str], head: int, homes: Mapping[str, List[str]]) -> str:
+    """The function's name below its crate, or why it has none that is known. A method stands in its type's module, wherever its `impl` stands."""
     name = name_in(lines[head])
     if not depth(lines[head]):
-        return "::".join([*modules, name])
+        return "::".join([*modules_of(file), name])
     owner = next((it for it in range(head, -1, -1) if not depth(lines[it]) and lines[it].strip()), head)
     last = next((it for it in range(owner, head) if lines[it].rstrip().endswith("{")), owner)
     of = type_of_impl(" ".join(lines[owner: last + 1]))
     if not of or depth(lines[head]) > depth("    "):
         return Alone("its function is in another one, or in a trait")
-    return "::".join([*modules, of, name])
+    return "::".join([*homes.get(of, modules_of(file)), of, name])
 
 
 def name_in(line: str) -> str:

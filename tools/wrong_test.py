@@ -59,9 +59,11 @@ def known() -> int:
     places = {"let a = 1;": "m::OneTwo::f", "    2": "m::g", "requires x { a }": Alone, "use a::b;": Alone, "pub fn f(self)": Alone, "u8 = 3": Alone}
     wrong: List[str] = []
     for old, what in places.items():
-        place = place_in("src/m.rt", CODE, old)
+        place = place_in("src/m.rt", CODE, old, {"OneTwo": ["m"]})
         is_right = isinstance(place, Alone) if what is Alone else isinstance(place, Place) and place.name == what
         wrong += [] if is_right else [f"{old!r} is of {place!r}"]
+    away = place_in("src/m.rt", CODE, "let a = 1;", {"OneTwo": ["n", "o"]})
+    wrong += [] if isinstance(away, Place) and away.name == "n::o::OneTwo::f" else [f"the method of a type of another file is {away!r}"]
     told = told_in(SAID, [Place("h", "src/h.rt", 8, 12)])
     wrong += [] if told == TOLD else [f"told is {told}"]
     verdicts = [
@@ -71,7 +73,7 @@ def known() -> int:
     for edit, kind in verdicts:
         found = verdict(edit, TOLD)
         wrong += [] if (found and found[0]) == kind else [f"{edit.functions} by {edit.wanted}: {found}, not {kind}"]
-    print("\n".join(wrong) or f"{len(places) + 1 + len(verdicts)} known answers are found")
+    print("\n".join(wrong) or f"{len(places) + 2 + len(verdicts)} known answers are found")
     return 1 if wrong else 0
 
 

@@ -99,7 +99,7 @@ over : (from : LoopStage) (units : ℕ) (left : LoopStage) (did : Did) → RunsS
 over (stage.Resting held) units left did (inl (slice.Over d told, it, begins, goes, lefts)) =
     at_once held d told units left did begins (subst (λ (x : StepSlice Desk). LeftByStep x left (end.Over did)) goes lefts)
 over (stage.Resting held) units left did (inl (slice.Paused s, it, begins, goes, lefts)) =
-    whole (stage.Resting held) s units left (λ c at. subst (λ (x : Core Desk). StepHasCome desk_calls x s) at begins.0) (sym begins.1.0) (sym begins.1.1) it did goes lefts
+    whole (stage.Resting held) s units left (λ c at. subst (λ (x : Core Desk). StepHasCome desk_calls x s) at begins.0) (sym begins.1) (sym begins.2) it did goes lefts
 over (stage.Resting held) units left did (inr (same, not)) = absurd cc
 over (stage.Stepping held) units left did (it, goes, lefts) = whole (stage.Stepping held) held.step units left (λ c at. at) refl refl it did goes lefts
 over stage.Gone units left did (same, not) = absurd cc
@@ -114,7 +114,7 @@ pub paused : (from : LoopStage) (units : ℕ) (left : LoopStage) → 1 ≤ units
 paused (stage.Resting held) units left enough (inl (slice.Over d told, it, begins, goes, lefts)) =
     absurd (at_end d told left (subst (λ (x : StepSlice Desk). LeftByStep x left end.Paused) goes lefts))
 paused (stage.Resting held) units left enough (inl (slice.Paused s, it, begins, goes, lefts)) =
-    part (stage.Resting held) s units left (λ c at. subst (λ (x : Core Desk). StepHasCome desk_calls x s) at begins.0) (sym begins.1.0) (sym begins.1.1) enough it goes lefts
+    part (stage.Resting held) s units left (λ c at. subst (λ (x : Core Desk). StepHasCome desk_calls x s) at begins.0) (sym begins.1) (sym begins.2) enough it goes lefts
 paused (stage.Resting held) units left enough (inr (same, not)) = absurd cc
 paused (stage.Stepping held) units left enough (it, goes, lefts) = part (stage.Stepping held) held.step units left (λ c at. at) refl refl enough it goes lefts
 paused stage.Gone units left enough (same, not) = absurd cc

@@ -15,6 +15,7 @@ The first prints each call that did not return, with its location and its source
 call 73, by default the last one. Module, limits, calls and the bytes that the host wrote determine everything else: a call takes some 30 bytes.
 """
 
+import functools
 import hashlib
 import json
 import os
@@ -37,13 +38,21 @@ class Instance(Plain):
         self._file.write(json.dumps(row, separators=(",", ":")) + "\n")
 
     def call(self, name, *args, fuel=1_000_000, depth=64, deadline=None):
+        call = functools.partial(super().call, name, *args, fuel=fuel, depth=depth, deadline=deadline)
+        return self._noted(call, name, args, fuel, depth)
+
+    def call_bytes(self, name, data, *args, fuel=1_000_000, depth=64):
+        call = functools.partial(super().call_bytes, name, data, *args, fuel=fuel, depth=depth)
+        return self._noted(call, name, args, fuel, depth, bytes(data).hex())
+
+    def _noted(self, call, name, args, fuel, depth, *data):
         try:
-            told = super().call(name, *args, fuel=fuel, depth=depth, deadline=deadline)
+            told = call()
         except Stopped as why:                          # one that was given up: as a call with just the fuel that it has used
-            self.note("call", name, args, why.used if isinstance(why, Late) else fuel, depth)
+            self.note("call", name, args, why.used if isinstance(why, Late) else fuel, depth, *data)
             self._file.flush()
             raise
-        self.note("call", name, args, fuel, depth)
+        self.note("call", name, args, fuel, depth, *data)
         return told
 
     def begin(self, name, *args, fuel=1_000_000, depth=64):
@@ -103,10 +112,10 @@ def run(rows, data, told=None):
         if word == "write":
             it.memory[more[0]:more[0] + len(more[1]) // 2] = bytes.fromhex(more[1])
             continue
-        name, args, fuel, depth = more
+        name, args, fuel, depth, *given = more
         calls += 1
         try:
-            ended = it.call(name, *args, fuel=fuel, depth=depth)
+            ended = it.call_bytes(name, bytes.fromhex(given[0]), *args, fuel=fuel, depth=depth) if given else it.call(name, *args, fuel=fuel, depth=depth)
         except Stopped as why:
             ended = why
         if told:
@@ -149,7 +158,7 @@ def main():
         with run(kept, freeze.with_globals(module)) as it:
             _tool.write(given.out, freeze.left_by(module, it)[0])
         words = ",".join([row[1], *map(str, row[2])])
-        print(f"{given.out} starts before call {given.before or count}: --call {words} --fuel {row[3]}")
+        print(f"{given.out} starts before call {given.before or count}: --call {words} --fuel {row[3]}", *("with the bytes " + it for it in row[5:]))
         return 0
     with run(rows, data, told):
         print(f"{sum(row[0] == 'call' for row in rows)} calls, {len(failed)} did not return")

@@ -49,6 +49,9 @@ uint32_t wasmloop_rt_call_begin(wasmloop_handle *, const uint8_t *, size_t, cons
 uint32_t wasmloop_rt_call_run_for(wasmloop_handle *, uint64_t, uint32_t *, wasmloop_ended *);
 uint32_t wasmloop_rt_call_for(wasmloop_handle *, uint64_t, const uint64_t *, size_t, const wasmloop_call_limits *, uint64_t, uint32_t *, wasmloop_ended *);
 uint32_t wasmloop_rt_call_end(wasmloop_handle *, wasmloop_ended *);
+uint32_t wasmloop_rt_call_bytes(wasmloop_handle *, uint64_t, const uint64_t *, size_t, const uint8_t *, size_t, const wasmloop_call_limits *,
+    wasmloop_ended *);
+uint32_t wasmloop_rt_view(wasmloop_handle *, const uint8_t **, uint64_t *);
 uint32_t wasmloop_rt_export_at(wasmloop_handle *, uint64_t, char *, size_t, wasmloop_listed *, wasmloop_type *);
 uint32_t wasmloop_rt_read(wasmloop_handle *, uint32_t, uint8_t *, size_t);
 uint32_t wasmloop_rt_write(wasmloop_handle *, uint32_t, const uint8_t *, size_t);
@@ -304,6 +307,18 @@ int wasmloop_call_for(wasmloop_handle *instance, uint64_t number, const uint64_t
 
 int wasmloop_call_end(wasmloop_handle *instance, wasmloop_ended *ended) {
     return instance && ended ? (int)wasmloop_rt_call_end(instance, ended) : WASMLOOP_NULL;
+}
+
+int wasmloop_call_bytes(wasmloop_handle *instance, uint64_t number, const uint64_t *arguments, size_t count, const uint8_t *bytes, size_t length,
+    const wasmloop_call_limits *limits, wasmloop_ended *ended) {
+    if (!instance || !limits || !ended || (!arguments && count) || (!bytes && length)) return WASMLOOP_NULL;
+    if (count > PTRDIFF_MAX / sizeof *arguments || length > PTRDIFF_MAX) return WASMLOOP_RANGE;
+    return (int)wasmloop_rt_call_bytes(instance, number, count ? arguments : &nothing, count, length ? bytes : (const uint8_t *)&nothing, length, limits,
+        ended);
+}
+
+int wasmloop_view(wasmloop_handle *instance, const uint8_t **bytes, uint64_t *count) {
+    return instance && bytes && count ? (int)wasmloop_rt_view(instance, bytes, count) : WASMLOOP_NULL;
 }
 
 int wasmloop_size(wasmloop_handle *handle, uint64_t *bytes) {

@@ -3,7 +3,7 @@
  * A guest is a WebAssembly module that imports functions of "uv", or none. Load it once, then run it in one of three ways:
  *
  *     job        runs uv_work once, on a fresh instance: bytes in, bytes out; in any thread
- *     instance   calls any export, and keeps its memory between calls; no timers, no input bytes
+ *     instance   calls any export, and keeps its memory between calls; input bytes by wasmloop_call_bytes; no timers
  *     loop       runs callbacks: timers, idles, checks, asyncs and completed work requests
  *
  *     wasmloop_handle module = WASMLOOP_HANDLE_INIT, job = WASMLOOP_HANDLE_INIT;
@@ -240,8 +240,8 @@ typedef struct wasmloop_ended {
 } wasmloop_ended;
 
 /* Creates an instance of a module and runs its start function, if any. Its memory, globals and table persist from call to call until you
- * drop it; the module may be dropped first. "uv" imports do nothing and return -1, as in `wasmloop invoke`: a module that has any
- * (wasmloop_shape's imports) may need a loop or a job instead. OK: *ended describes the start function.
+ * drop it; the module may be dropped first. "uv" imports do nothing and return -1, as in `wasmloop invoke`, but for those of wasmloop_call_bytes: a
+ * module that has any (wasmloop_shape's imports) may need a loop or a job instead. OK: *ended describes the start function.
  * NOT_STARTED: the start function did not return; *ended says how it ended, and no instance is created. RANGE: the depth is not 1 to 128.
  * In no other case is *ended written. */
 int wasmloop_instance(const wasmloop_handle *module, const wasmloop_call_limits *limits, wasmloop_handle *instance, wasmloop_ended *ended);
@@ -279,6 +279,18 @@ int wasmloop_call_for(wasmloop_handle *instance, uint64_t number, const uint64_t
  * the call has used. The memory and the globals are those of wasmloop_call with exactly that much fuel, wasmloop_stop reports where the call stood,
  * or NONE if nothing of it has run, and you may call the instance again. KIND: no call is in progress; then *ended is not written. */
 int wasmloop_call_end(wasmloop_handle *instance, wasmloop_ended *ended);
+
+/* Calls the function that is export `number`, as wasmloop_call_at does, and gives it `length` bytes, at most 65,536: in this call in_len, in_copy and
+ * out_set of "uv" work as in a job, so that a guest that is written for jobs is a plug-in too; its other "uv" calls still return -1. `bytes` is read
+ * in place, and may be NULL if `length` is 0. The first such call of an instance allocates 64 KiB for its replies. RANGE: `length` or the depth is out of
+ * range. NONE, ARGUMENTS, KIND: as for wasmloop_call_at. */
+int wasmloop_call_bytes(wasmloop_handle *instance, uint64_t number, const uint64_t *args, size_t count, const uint8_t *bytes, size_t length,
+    const wasmloop_call_limits *limits, wasmloop_ended *ended);
+
+/* Returns the reply of the last wasmloop_call_bytes in place: the bytes that the guest's last out_set gave in it, however the call ended; none before
+ * the first. They stay readable until the next wasmloop_call_bytes that returns OK, or until the instance is dropped; if *count is 0, do not
+ * read *bytes. */
+int wasmloop_view(wasmloop_handle *instance, const uint8_t **bytes, uint64_t *count);
 
 /* wasmloop_size, wasmloop_read and wasmloop_global inspect the instance of a handle: an instance as its last call left it, however that ended;
  * a loop's as its last callback left it, also the one that failed; or that of a call that is paused between two slices, as a call with just

@@ -300,7 +300,7 @@ def typed():
         return None if name == b"nobody" else b"Good day, "
 
     async def greet(name, *room):
-        with names["Greets"](Module(made), greeting) as it:
+        with names["Greets"](Module(made), greeting, deadline=60_000) as it:
             told = it.greet(name, *room)
             other = it.greet("another")
             told, other = await asyncio.gather(told, other, return_exceptions=True)
@@ -342,6 +342,10 @@ def faults():
         (OUT / "lies.c").write_text(LIES.replace("KIND", kind))
         one = ask.Plugin(Module(linked(OUT / "lies.c")), price)
         same(f"a plug-in that lies: {kind}", raised(lambda: asyncio.run(one.call("run", fuel=1000))), told)
+    for deadline in 0, 20:
+        one = ask.Plugin(Module(linked(OUT / "lies.c")), price)
+        told = raised(lambda: asyncio.run(one.call("run", fuel=AMPLE, deadline=deadline)))
+        same("a deadline of a plug-in that asks without end", told.partition(" ")[2], "passed its deadline, after ")
     same("no question to go on with", raised(lambda: ask.moved(ask.Plugin(Module(made), price).steps("total", 3, resumed=True), None)), "no question waits")
     one = ask.Plugin(Module(made), price)
     same("too little fuel", raised(lambda: asyncio.run(one.call("total", 9, fuel=700))), "total ran out of fuel, after ")

@@ -129,7 +129,22 @@ def calls():
         same((loop.request(0, b"abc"), loop.request(0, bytes(65_537)), loop.stop_told(b"")), (5, -22, None))
         refused(lambda: loop.request(2**32), wasmloop.RANGE)
     refused(lambda: loop.request(0), wasmloop.EMPTY)
+    calls_with_bytes((EXAMPLES / "sha256.wasm").read_bytes())
     loops_in_slices((EXAMPLES / "digest.wasm").read_bytes())
+
+
+def calls_with_bytes(data):
+    """uv_work of a kept instance, with bytes, is the job."""
+    with wasmloop.Module(data) as module, module.instance() as it:
+        same(it.reply, b"")
+        for word in b"abc", b"", bytes(65_536), bytearray(b"abcd"):
+            job = module.work(0, word, fuel=10**8)
+            same((it.call_bytes("uv_work", word, 0, fuel=10**8), it.reply, it.used), (job.value, job.data, job.used))
+        refused(lambda: it.call_bytes("uv_work", bytes(65_537), 0), wasmloop.RANGE)
+        refused(lambda: it.call_bytes("absent", b""), wasmloop.NONE)
+        same(len(it.reply), 32)
+        same(refused(lambda: it.call_bytes("uv_work", b"abc", 0, fuel=3), wasmloop.OK).ending, "spent")
+        same(it.reply, b"")
 
 
 def loops_in_slices(data):

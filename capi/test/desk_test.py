@@ -367,7 +367,18 @@ def instances_part():
             pass
     ran = subprocess.run([*tool, "--before", "26", "-o", out], capture_output=True, check=False, encoding="utf-8")
     same("a call that is not there", (ran.returncode, "--before 26 is not 1 to 25" in ran.stderr), (2, True))
+    bytes_recorded((EXAMPLES / "sha256.wasm").read_bytes(), path)
     print("instances: 25 recorded calls are repeated, and a module stands before one of them")
+
+
+def bytes_recorded(data, path):
+    """Calls with bytes are recorded with them: the last reply is that of the record repeated."""
+    with plugin_record.Instance(wasmloop.Module(data), data, path) as it:
+        for word in b"first", b"", b"abc":
+            it.call_bytes("uv_work", word, 0)
+        reply = it.reply
+    same("calls with bytes that are repeated", plugin_record.run(replay.rows_of(path, "instance", 5), data).reply, reply)
+    same("their last reply", reply, wasmloop.Module(data).work(0, b"abc").data)
 
 
 def fuzz_part():

@@ -585,6 +585,32 @@ static void call(slot *it) {
     stop(it, told_of.ending != WASMLOOP_RETURN);
 }
 
+/* A call with bytes: what is not made leaves the last reply. */
+static void call_bytes(slot *it) {
+    wasmloop_call_limits limits = { below(100000), depth(), 0 };
+    wasmloop_ended told_of;
+    memset(&told_of, GUARD, sizeof told_of);
+    uint64_t args[4] = { draw(), draw(), draw(), (uint64_t)draw() << 20 }, before = GUARD, after = GUARD;
+    const uint8_t *at = NULL, *seen = NULL;
+    size_t length = below(8) ? below(300) : 65530 + below(12);
+    uint8_t *word = room_for(length);
+    int wanted = is_depth(limits.depth) && length <= 65536 ? of_kind(it, INSTANCE) : WASMLOOP_RANGE;
+    told("view", CALL(wasmloop_view(&it->handle, &at, &before)), it->kind == CALLING ? WASMLOOP_OK : of_kind(it, INSTANCE));
+    int status = CALL(wasmloop_call_bytes(&it->handle, below(8), args, below(5), word, length, &limits, &told_of));
+    if (wanted == WASMLOOP_OK && (status == WASMLOOP_NONE || status == WASMLOOP_ARGUMENTS)) wanted = status;
+    int is_made = told("call_bytes", status, wanted);
+    done_with("call_bytes", word, length, 0);
+    CALL(wasmloop_view(&it->handle, &seen, &after));
+    if (!is_made) {
+        untouched("ended", &told_of, sizeof told_of);
+        is("a reply that stays", seen == at && after == before, 1);
+        return;
+    }
+    ended_right(&told_of, limits.fuel);
+    stop(it, told_of.ending != WASMLOOP_RETURN);
+    is("the length of a reply", after <= 65536, 1);
+}
+
 /* Begins a call, and makes it in slices: one that leaves it paused has used its units, and the last one no more. */
 static void begin_call(slot *it) {
     wasmloop_call_limits limits = { below(100000), depth(), 0 };
@@ -741,6 +767,7 @@ static void tells(slot *a, slot *b) { (void)b, stop_told(a), warnings(a); }
 static void asks(slot *a, slot *b) { (void)b, requests(a); }
 static void globals(slot *a, slot *b) { (void)b, global(a); }
 static void call_of(slot *a, slot *b) { (void)b, call(a); }
+static void calls_bytes(slot *a, slot *b) { (void)b, call_bytes(a); }
 static void begins(slot *a, slot *b) { (void)b, begin_call(a); }
 static void calls_for(slot *a, slot *b) { (void)b, call_for(a); }
 static void first_slices(slot *a, slot *b) { (void)b, first_slice(a); }
@@ -772,6 +799,7 @@ static const struct { void (*call)(slot *, slot *); int first, second; } all[] =
     { memories, STEPPING, NOTHING }, { globals, STEPPING, NOTHING }, { tells, STEPPING, NOTHING }, { drops, STEPPING, NOTHING },
     { first_slices, INSTANCE, NOTHING }, { first_slices, INSTANCE, NOTHING }, { first_slices, CALLING, NOTHING },
     { exports, MODULE, NOTHING }, { exports, INSTANCE, NOTHING }, { texts, NOTHING, NOTHING },
+    { calls_bytes, INSTANCE, NOTHING }, { calls_bytes, INSTANCE, NOTHING }, { calls_bytes, CALLING, NOTHING },
     { tells, CALLING, NOTHING }, { tells, LOOP, NOTHING }, { tells, INSTANCE, NOTHING }, { tells, JOB, NOTHING }, { tells, MODULE, NOTHING },
 };
 

@@ -94,6 +94,15 @@ static void calls(void) {
     wasmloop_export_number(&module, "uv_work", &number);
     wasmloop_call_at(&instance, number, args, 1, &limits, &ended);
 }
+static void calls_bytes(void) {
+    wasmloop_call_limits limits = { 100000, 128, 0 };
+    wasmloop_ended ended;
+    uint64_t args[1] = { 0 }, number = 0, count;
+    const uint8_t *at;
+    wasmloop_export_number(&module, "uv_work", &number);
+    wasmloop_call_bytes(&instance, number, args, 1, (const uint8_t *)text, 65536, &limits, &ended);
+    wasmloop_view(&instance, &at, &count);
+}
 static void first_slice(void) {
     wasmloop_call_limits limits = { 100000, 128, 0 };
     wasmloop_ended ended;
@@ -197,7 +206,7 @@ static const struct { const char *name; void (*call)(void); } all[] = {
     { "loop of nothing", makes_none }, { "step_for", steps_for }, { "turn_for", turns_for }, { "drop", drops },
     { "load", loads }, { "loop", makes_loop }, { "request", asks }, { "warning", warns }, { "turn", turns }, { "next_job", hands_out }, { "job_run", runs },
     { "accept", accepts }, { "job_new", makes_job }, { "job_run", runs }, { "stop", stops }, { "stop_told", stops_told },
-    { "stop_places", tells_places }, { "instance", makes_instance }, { "call", calls }, { "call_for", first_slice }, { "call_end", ends },
+    { "stop_places", tells_places }, { "instance", makes_instance }, { "call", calls }, { "call_bytes", calls_bytes }, { "call_for", first_slice }, { "call_end", ends },
     { "export_at", lists }, { "call_begin", begins }, { "call_run_for", goes_on }, { "call_run_for", goes_on }, { "work", works }, { "step", steps }, { "of a module", reads_module }, { "of a loop", reads_loop }, { "of a job", reads_job },
     { "of an instance", inspects }, { "drop", drops }, { "load", loads }, { "loop", makes_loop }, { "job_new", makes_job }, { "job_start", starts },
     { "job_run_for", runs_for }, { "job_run_for", runs_for }, { "stop_places", tells_places }, { "drop", drops },

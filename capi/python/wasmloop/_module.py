@@ -13,7 +13,7 @@ from typing import Any, Dict, List, NamedTuple, Optional, Tuple, Union
 from ._calls import _LISTED, _call, _data, _depth, _export, _fuel, _held, _module_data, _no_function, _text, _whole, explain, shown
 from ._errors import Error, InertImports, Late, Refused, Stopped, _failed
 from ._abi import (ARGUMENTS, KIND, NONE, NOT_STARTED, OK, REFUSED, Buffer, Export, Fault, Shape, _CallLimits, _Ended, _lib, _Listed, _Signature, _Task)
-from ._objects import _SLICE, Job, Reply, _Held, _Inspected, _run_call, _signed, _until
+from ._objects import _SLICE, Job, Reply, _Held, _Inspected, _run_call, _signed, _until, _viewed
 
 
 def _contents(file: str) -> bytes:
@@ -189,6 +189,19 @@ class Instance(_Inspected):
         _call("call_for", self.handle, self._exported(name).number, numbers, c.c_size_t(len(args)), limits,
               c.c_uint64(_whole("units", units, 1, 2**64 - 1)), c.byref(over), ended)
         return Call(self, name, ended if over.value else None)
+
+    def call_bytes(self, name: str, data: Buffer, *args: int, fuel: int = 1_000_000, depth: int = 64) -> Union[None, int, Tuple[int, ...]]:
+        """`call` with at most 65,536 input bytes, which the guest reads by in_len and in_copy, as in a job. What it sets by out_set is the
+        `reply`, however the call ends."""
+        numbers, limits, ended, data = self._words(name, args), _call_limits(fuel, depth), _Ended(), _data(data)
+        _whole("length", len(data), 0, 65_536)
+        _call("call_bytes", self.handle, self._exported(name).number, numbers, c.c_size_t(len(args)), data, c.c_size_t(len(data)), limits, ended)
+        return self._results(name, ended)
+
+    @property
+    def reply(self) -> bytes:
+        """The bytes that the guest set in the last call_bytes."""
+        return _viewed(lambda *to: _call("view", self.handle, *to))
 
     def _call_within(self, name: str, args: Tuple[int, ...], fuel: int, depth: int, until: float) -> Union[None, int, Tuple[int, ...]]:
         call = Instance.call_for(self, name, *args, units=_SLICE, fuel=fuel, depth=depth)

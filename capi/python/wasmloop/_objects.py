@@ -4,7 +4,7 @@ from __future__ import annotations
 
 import ctypes as c
 import time
-from typing import Any, List, NamedTuple, Optional, Tuple, TypeVar, Union
+from typing import Any, Callable, List, NamedTuple, Optional, Tuple, TypeVar, Union
 
 from ._calls import _call, _data, _expected, _export, _text, _whole
 from ._errors import Error, Late, OutOfRange, Stopped, _failed, _unfinished
@@ -164,6 +164,13 @@ def _signed(value: int, bits: int) -> int:
     return (value ^ 1 << bits - 1) - (1 << bits - 1)
 
 
+def _viewed(view: Callable[[Any, Any], None]) -> bytes:
+    """The bytes that a call tells the place and the number of."""
+    at, count = c.c_void_p(), c.c_uint64()
+    view(c.byref(at), c.byref(count))
+    return c.string_at(at, count.value) if count.value else b""
+
+
 # The units of fuel between two looks at the clock, about a millisecond: how far a call with a deadline may pass it.
 _SLICE = 100_000
 
@@ -229,9 +236,7 @@ class Job(_Runs):
         return room.raw[:size]
 
     def _reply(self) -> bytes:
-        at, count = c.c_void_p(), c.c_uint64()
-        _call("job_view", self.handle, c.byref(at), c.byref(count))
-        return c.string_at(at, count.value) if count.value else b""
+        return _viewed(lambda *to: _call("job_view", self.handle, *to))
 
     def run(self) -> Job:
         """Runs the job in this thread, without holding the GIL, and returns it."""

@@ -23,9 +23,12 @@ import struct
 import subprocess
 import sys
 import tempfile
+import time
 from typing import Any, Awaitable, Callable, Generator, Optional, Tuple, Union
 
-from . import KIND, RANGE, Error, Module, _asyncify, _tool, explain
+from . import KIND, RANGE, SPENT, Error, Late, Module, _asyncify, _tool, explain
+from ._abi import _Ended
+from ._objects import _until
 
 Results = Union[None, int, Tuple[int, ...]]
 Steps = Generator[bytes, Optional[bytes], Results]
@@ -45,6 +48,7 @@ class Plugin:
 
     def __init__(self, module: Module, answer: Answer, fuel: int = 1_000_000, depth: int = 64) -> None:
         self.instance, self.answer, self.used, self._state = module.instance(fuel, depth), answer, 0, ""
+        self._until: Optional[float] = None
         try:
             self._asks = [module.function(it) for it in ASKS] == list(ASKS.values())
         except Error:
@@ -70,10 +74,11 @@ class Plugin:
         if self._state:
             raise Error(KIND, self._state)
 
-    async def call(self, name: str, *args: int, fuel: int = 1_000_000, depth: int = 64) -> Results:
-        """Calls the function exported as `name`, as Instance.call does, and answers its questions. `fuel` is for the whole call. If the call does
-        not return, or `answer` raises, the plug-in stands in the middle of it, and can only be closed."""
-        steps = self.steps(name, *args, fuel=fuel, depth=depth)
+    async def call(self, name: str, *args: int, fuel: int = 1_000_000, depth: int = 64, deadline: Optional[float] = None) -> Results:
+        """Calls the function exported as `name`, as Instance.call does, and answers its questions. `fuel` and `deadline` are for the whole call, its
+        answers too; the clock is looked at while the guest runs. If the call does not return, or `answer` raises, the plug-in stands in the middle
+        of it, and can only be closed."""
+        steps = self.steps(name, *args, fuel=fuel, depth=depth, deadline=deadline)
         try:
             waits, it = moved(steps, None)
             while waits:
@@ -82,11 +87,12 @@ class Plugin:
             steps.close()
         return it  # type: ignore[no-any-return]
 
-    def steps(self, name: str, *args: int, fuel: int = 1_000_000, depth: int = 64, resumed: bool = False) -> Steps:
+    def steps(self, name: str, *args: int, fuel: int = 1_000_000, depth: int = 64, resumed: bool = False, deadline: Optional[float] = None) -> Steps:
         """The same call as a generator, for a host that doesn't use asyncio: it yields each question, is sent the answer, and returns the results.
         With `resumed`, it begins with the question that waits: in an instance of a module that freeze.left_by wrote meanwhile."""
         self.check()
         self._asked = 0
+        self._until = None if deadline is None else _until(deadline)
         self._state, self.used = f"the plug-in stands in the middle of a call of {name}", 0
         told = None if resumed else self._call(fuel, depth, name, *args)
         while self._asks and (at := self._call(fuel, depth, "ask_next")):
@@ -99,9 +105,12 @@ class Plugin:
         return told
 
     def _call(self, fuel: int, depth: int, name: str, *args: int) -> Any:
-        """A call with the fuel that is left."""
+        """A call with the fuel and the time that are left."""
+        left = None if self._until is None else max(0.0, self._until - time.monotonic()) * 1000
+        if left == 0 and self.used:
+            raise Late(name, _Ended(ending=SPENT, used=self.used))
         try:
-            return self.instance.call(name, *args, fuel=fuel - self.used, depth=depth)
+            return self.instance.call(name, *args, fuel=fuel - self.used, depth=depth, deadline=left)
         finally:
             self.used += self.instance.used
 

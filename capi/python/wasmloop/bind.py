@@ -197,18 +197,19 @@ class Plugin(_Typed):
 
 
 class Asking(_Typed):
-    """An instance with typed calls that may ask: each is awaited, and `answer` answers its questions, as ask.Plugin's does."""
+    """An instance with typed calls that may ask: each is awaited, and `answer` answers its questions, as ask.Plugin's does. `fuel`, `depth` and
+    `deadline`, in milliseconds, are each call's limits, as ask.Plugin.call has them."""
 
-    def __init__(self, module: Module, answer: ask.Answer, fuel: int = 10_000_000, depth: int = 64) -> None:
+    def __init__(self, module: Module, answer: ask.Answer, fuel: int = 10_000_000, depth: int = 64, deadline: Optional[float] = None) -> None:
         self.plugin = ask.Plugin(module, answer, fuel, depth)
-        super().__init__(module, self.plugin.instance, fuel, depth)
+        super().__init__(module, self.plugin.instance, fuel, depth, deadline)
 
     async def _call(self, name: str, *args: Any) -> Tuple[Any, bytes]:
         self.plugin.check()
         at = self._space(args)
         try:
             words, place, area = self._words(at, args)
-            return self._told(name, await self.plugin.call(name, *words, fuel=self.fuel, depth=self.depth), place, area)
+            return self._told(name, await self.plugin.call(name, *words, fuel=self.fuel, depth=self.depth, deadline=self.deadline), place, area)
         finally:
             if not self.plugin.busy:
                 self._free(at)

@@ -17,14 +17,17 @@ call 73, by default the last one. Module, limits, calls and the bytes that the h
 
 from __future__ import annotations
 
+import functools
 import hashlib
 import json
 import os
 import sys
-from typing import Any, Callable, List, Optional, Tuple, Union
+from typing import Any, Callable, List, Optional, Sequence, Tuple, TypeVar, Union
 
 from . import Buffer, Call as PlainCall, Instance as Plain, Late, Memory as PlainMemory, Module, Stopped, _tool, freeze, lines, replay, wasm
 from .record import Note
+
+Told = TypeVar("Told")
 
 
 class Instance(Plain):
@@ -42,13 +45,21 @@ class Instance(Plain):
         self._file.write(json.dumps(row, separators=(",", ":")) + "\n")
 
     def call(self, name: str, *args: int, fuel: int = 1_000_000, depth: int = 64, deadline: Optional[float] = None) -> Union[None, int, Tuple[int, ...]]:
+        call: Callable[[], Union[None, int, Tuple[int, ...]]] = functools.partial(super().call, name, *args, fuel=fuel, depth=depth, deadline=deadline)
+        return self._noted(call, name, args, fuel, depth)
+
+    def call_bytes(self, name: str, data: bytes, *args: int, fuel: int = 1_000_000, depth: int = 64) -> Union[None, int, Tuple[int, ...]]:
+        call: Callable[[], Union[None, int, Tuple[int, ...]]] = functools.partial(super().call_bytes, name, data, *args, fuel=fuel, depth=depth)
+        return self._noted(call, name, args, fuel, depth, bytes(data).hex())
+
+    def _noted(self, call: Callable[[], Told], name: str, args: Sequence[int], fuel: int, depth: int, *data: str) -> Told:
         try:
-            told = super().call(name, *args, fuel=fuel, depth=depth, deadline=deadline)
+            told = call()
         except Stopped as why:                          # one that was given up: as a call with just the fuel that it has used
-            self.note("call", name, args, why.used if isinstance(why, Late) else fuel, depth)
+            self.note("call", name, args, why.used if isinstance(why, Late) else fuel, depth, *data)
             self._file.flush()
             raise
-        self.note("call", name, args, fuel, depth)
+        self.note("call", name, args, fuel, depth, *data)
         return told
 
     def begin(self, name: str, *args: int, fuel: int = 1_000_000, depth: int = 64) -> PlainCall:
@@ -113,10 +124,11 @@ def run(rows: replay.Rows, data: bytes, told: Optional[Callable[[Plain, int, str
         if word == "write":
             it.memory[more[0]:more[0] + len(more[1]) // 2] = bytes.fromhex(more[1])
             continue
-        name, args, fuel, depth = more
+        name, args, fuel, depth, *given = more
         calls += 1
         try:
-            ended: object = it.call(name, *args, fuel=fuel, depth=depth)
+            ended: object = (it.call_bytes(name, bytes.fromhex(given[0]), *args, fuel=fuel, depth=depth) if given
+                             else it.call(name, *args, fuel=fuel, depth=depth))
         except Stopped as why:
             ended = why
         if told:
@@ -160,7 +172,7 @@ def main() -> int:
         with run(kept, freeze.with_globals(module)) as it:
             _tool.write(given.out, freeze.left_by(module, it)[0])
         words = ",".join([row[1], *map(str, row[2])])
-        print(f"{given.out} starts before call {given.before or count}: --call {words} --fuel {row[3]}")
+        print(f"{given.out} starts before call {given.before or count}: --call {words} --fuel {row[3]}", *("with the bytes " + it for it in row[5:]))
         return 0
     with run(rows, data, told):
         print(f"{sum(row[0] == 'call' for row in rows)} calls, {len(failed)} did not return")

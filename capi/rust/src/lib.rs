@@ -364,6 +364,17 @@ extern "C" {
         ended: *mut Ended,
     ) -> i32;
     fn wasmloop_call_end(instance: *mut Handle, ended: *mut Ended) -> i32;
+    fn wasmloop_call_bytes(
+        instance: *mut Handle,
+        number: u64,
+        args: *const u64,
+        count: usize,
+        bytes: *const u8,
+        length: usize,
+        limits: *const CallLimits,
+        ended: *mut Ended,
+    ) -> i32;
+    fn wasmloop_view(instance: *mut Handle, bytes: *mut *const u8, count: *mut u64) -> i32;
     fn wasmloop_size(handle: *mut Handle, bytes: *mut u64) -> i32;
     fn wasmloop_read(handle: *mut Handle, at: u32, into: *mut u8, length: usize) -> i32;
     fn wasmloop_write(instance: *mut Handle, at: u32, from: *const u8, length: usize) -> i32;
@@ -823,6 +834,26 @@ impl Instance {
         let status = unsafe { wasmloop_call_at(&mut self.0, export.number, args.as_ptr(), args.len(), &limits, &mut ended) };
         self.called(status, &export.name, args)?;
         ended.returned()
+    }
+
+    /// `call_at` with at most 65,536 bytes, which the guest reads by `in_len` and `in_copy`, as in a job. What it sets by `out_set` is the `reply`.
+    pub fn call_bytes(&mut self, export: &Export, args: &[u64], bytes: &[u8], fuel: u64, depth: u32) -> Result<Ended, Error> {
+        let (limits, mut ended) = (call_limits(fuel, depth)?, Ended::default());
+        within("length", bytes.len() as u64, 0, 65_536)?;
+        let status = unsafe {
+            let (args, count, bytes, length) = (args.as_ptr(), args.len(), bytes.as_ptr(), bytes.len());
+            wasmloop_call_bytes(&mut self.0, export.number, args, count, bytes, length, &limits, &mut ended)
+        };
+        self.called(status, &export.name, args)?;
+        ended.returned()
+    }
+
+    /// The reply of the last `call_bytes`, in place: what the guest set in it, however it ended.
+    pub fn reply(&mut self) -> Result<&[u8], Error> {
+        let (mut bytes, mut count) = (null(), 0);
+        done(unsafe { wasmloop_view(&mut self.0, &mut bytes, &mut count) })?;
+        // (they stay until the next call with bytes, or until the instance is dropped, each of which needs it mutably)
+        Ok(if count == 0 { &[] } else { unsafe { std::slice::from_raw_parts(bytes, count as usize) } })
     }
 
     /// Begins a call and runs its first slice, of at most `units` units of fuel. `None` if the call is not over: then go on with `run_for`, or `end_call`.

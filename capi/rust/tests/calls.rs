@@ -214,6 +214,24 @@ fn a_loop_goes_by_slices() {
 }
 
 #[test]
+fn a_call_with_bytes_is_the_job() {
+    let sha = module("sha256");
+    let (mut it, work) = (Instance::new(&sha, 1, 64).unwrap(), sha.export("uv_work").unwrap());
+    assert!(it.reply().unwrap().is_empty());
+    for bytes in [&b"abc"[..], &[], &[7; 65_536]] {
+        let mut job = sha.work(task(100_000_000), bytes).unwrap();
+        let ended = it.call_bytes(&work, &[0], bytes, 100_000_000, 64).unwrap();
+        assert_eq!((ended.results()[0] as i32, ended.used), (job.value().unwrap(), job.about().unwrap().used));
+        assert_eq!(it.reply().unwrap(), job.reply().unwrap());
+    }
+    assert!(it.call_bytes(&work, &[0], &[0; 65_537], 1, 64).is_err());
+    assert_eq!(said(it.call_bytes(&work, &[], b"", 1, 64)), "uv_work takes 1 argument, got 0");
+    assert_eq!(it.reply().unwrap().len(), 32);
+    assert!(matches!(it.call_bytes(&work, &[0], b"abc", 3, 64), Err(Error::Stopped { ending: wasmloop::SPENT, used: 3, .. })));
+    assert!(it.reply().unwrap().is_empty());
+}
+
+#[test]
 fn an_instance_keeps_its_memory() {
     let file = env::var("WASMLOOP_PLUGIN").unwrap_or_default();
     if file.is_empty() {

@@ -8,7 +8,9 @@ ghost use Rattle.instance.specs.Store.{bytes_at, memory_of, with_memory_instance
 ghost use Rattle.instance.specs.Reads.{WritesAt};
 ghost use Rattle.instance.specs.Fresh.{IsFresh};
 ghost use Rattle.instance.specs.Storing.{IsStoreOf};
-ghost use Rattle.reduction.specs.Invoking.{TakesArguments};
+ghost use Rattle.reduction.specs.Hosting.{Names};
+ghost use Rattle.reduction.specs.Invoking.{TakesArguments, ReturnsTyped};
+ghost use Rattle.reduction.specs.Leading.{Leads, calling, scene};
 ghost use Rattle.interp.specs.Lent.{result_count, ended_in};
 ghost use Rattle.resident.specs.Inner.Going.{at_rest, IsResting};
 ghost use Rattle.resident.specs.Numbered.{HasNoType, ExportsAt, ExportsNoFunctionAt};
@@ -25,6 +27,7 @@ use instance::stack::Stop;
 use instance::state::{Instance, State};
 use interp::call::FunctionCall;
 use interp::conditions::takes_arguments;
+use interp::host::Host;
 use interp::invoke::ended_with;
 use interp::machine::Machine;
 use limits::MAX_RESULTS;
@@ -192,6 +195,43 @@ impl Resident {
         machine.call_lent(valid, state, &mut host, results, &call)
     }
 
+    /// Calls a function as `call` does, while this host answers the imports.
+    pub fn call_over<H: Host>(
+        &mut self,
+        host: &mut H,
+        function: u32,
+        args: &[Value],
+        fuel: u64,
+        depth: u32,
+    ) -> Ended
+        requires names { Names self.old.loaded.contents (H.types host.old) }
+        requires typed { TakesArguments self.old.loaded.contents function args.now }
+        requires depth { (1 ≤ depth) × (depth ≤ MAX_DEPTH) }
+        ensures runs { Leads H.moves (calling self.old.loaded.contents function args.now fuel depth) (scene self.old.store host.old)
+            result self.new.stop (scene self.new.store host.new) }
+        ensures within { result.used ≤ fuel }
+        ensures results { ReturnsTyped self.old.loaded.contents function result.ending }
+        ensures module { self.new.loaded ≡ self.old.loaded }
+    {
+        let InstanceRoom {
+            linked,
+            state,
+            machine,
+            place: _,
+        } = &mut *self.kept;
+        let valid = linked.valid();
+        let count = result_count(valid, function);
+        let mut places = [Value::I32(0); MAX_RESULTS];
+        let call = FunctionCall {
+            function,
+            args,
+            fuel,
+            depth,
+        };
+        let ended = machine.call_lent(valid, state, host, &mut places, &call);
+        ended_with(ended, &places[..count])
+    }
+
     /// Runs the start function, where there is one.
     pub fn start(&mut self, fuel: u64, depth: u32) -> Ended
         requires { (1 ≤ depth) × (depth ≤ MAX_DEPTH) }
@@ -218,6 +258,13 @@ impl Resident {
         ensures { result.now ≡ self.now.loaded }
     {
         &self.kept.linked
+    }
+
+    /// A share of its module. An error comes where it has as many shares as can be counted.
+    pub fn share_module(&self) -> Result<Arc<Linked, Global>, AllocError>
+        ensures { IfOk result (λ m. arc_value m ≡ self.now.loaded) }
+    {
+        Arc::try_clone(&self.kept.linked)
     }
 
     /// Its instance as the last call left it, however that ended.

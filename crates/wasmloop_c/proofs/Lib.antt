@@ -8,3 +8,4 @@ mod Sites
 mod Turning
 mod TurnsCut
 mod HeldLoops
+mod Answering

@@ -24,7 +24,7 @@ store_in stage.Gone = None
 -- of a loop between two steps, or after the one that failed, the store that its last callback left
 abbrev pub store_of : Thing → Option (Loaded × Store)
 store_of (thing.Loop it callbacks) = option_map (λ c. (c.setting.loaded, c.loop.store)) (core_in it.value)
-store_of (thing.Instance instance) = store_in instance.value
+store_of (thing.Instance instance reply) = store_in instance.value
 store_of _ = None
 
 -- between two slices the store is that of a call with just so much fuel as this one has used
@@ -33,7 +33,7 @@ StandsIn (stage.Calling call) = (stop : Option Halt) × CallStandsAt call stop
 StandsIn _ = Unit {0}
 
 abbrev pub Stands : Thing → Type 0
-Stands (thing.Instance instance) = StandsIn instance.value
+Stands (thing.Instance instance reply) = StandsIn instance.value
 Stands _ = Unit {0}
 
 -- a call that only reads such a store: where there is none, the status says so, and `Same` holds

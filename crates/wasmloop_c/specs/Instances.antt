@@ -28,12 +28,12 @@ resident_in _ = None
 
 -- the instance that a thing is, in a call or not
 abbrev pub instance_stage_of : Thing → Option InstanceStage
-instance_stage_of (thing.Instance instance) = Some instance.value
+instance_stage_of (thing.Instance instance reply) = Some instance.value
 instance_stage_of _ = None
 
 -- the instance that a thing is, in no call
 abbrev pub resident_of : Thing → Option KeptInstance
-resident_of (thing.Instance instance) = resident_in instance.value
+resident_of (thing.Instance instance reply) = resident_in instance.value
 resident_of _ = None
 
 -- a call on what a handle has: where that is no instance it stays, and the status says so, and `Same` holds

@@ -28,7 +28,7 @@ kind_of_loop _ = HOLDS_LOOP
 abbrev pub kind_of : Thing → ℕ
 kind_of (thing.Module it) = HOLDS_MODULE
 kind_of (thing.Job it) = kind_of_job it.value
-kind_of (thing.Instance it) = kind_of_call it.value
+kind_of (thing.Instance it reply) = kind_of_call it.value
 kind_of (thing.Loop it callbacks) = kind_of_loop it.value
 kind_of thing.Gone = HOLDS_NOTHING
 

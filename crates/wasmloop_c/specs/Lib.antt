@@ -1,3 +1,4 @@
+pub mod BytesCalls
 pub mod CallSlices
 pub mod Calls
 pub mod Numbers

@@ -72,7 +72,7 @@ LoopStopsAs _ found = found ≡ None
 abbrev pub StopsAs : Thing → FoundStop → Type 0
 StopsAs (thing.Loop it callbacks) found = LoopStopsAs it.value found
 StopsAs (thing.Job job) found = JobStopsAs job.value found
-StopsAs (thing.Instance instance) found = CallStopsAs instance.value found
+StopsAs (thing.Instance instance reply) found = CallStopsAs instance.value found
 StopsAs other found = found ≡ None
 
 -- An operation of the decoded body is the instruction of this number that the body spells, which begins at this byte. (A body in which each

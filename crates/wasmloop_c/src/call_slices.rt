@@ -62,7 +62,7 @@ fn begin(
 ) -> u32
     ensures { BeginsCall thing.old thing.new name.now numbers.now limits result }
 {
-    let Thing::Instance(stage) = thing else {
+    let Thing::Instance(stage, _) = thing else {
         return KIND;
     };
     let taken = replace(&mut **stage, InstanceStage::Gone);
@@ -167,7 +167,7 @@ fn run_for(thing: &mut Thing, units: u64, over: &mut u32, told: &mut CallEnded) 
     requires { 1 ≤ units }
     ensures { RunsCall thing.old thing.new units over.old over.new told.old told.new result }
 {
-    let Thing::Instance(stage) = thing else {
+    let Thing::Instance(stage, _) = thing else {
         return KIND;
     };
     let taken = replace(&mut **stage, InstanceStage::Gone);
@@ -210,7 +210,7 @@ fn end_stage(stage: InstanceStage, told: &mut CallEnded) -> (InstanceStage, u32)
 fn end(thing: &mut Thing, told: &mut CallEnded) -> u32
     ensures { EndsCallOf thing.old thing.new told.old told.new result }
 {
-    let Thing::Instance(stage) = thing else {
+    let Thing::Instance(stage, _) = thing else {
         return KIND;
     };
     let taken = replace(&mut **stage, InstanceStage::Gone);

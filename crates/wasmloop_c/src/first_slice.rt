@@ -128,7 +128,7 @@ fn call_for(
 ) -> u32
     ensures { CallsFor thing.old thing.new number numbers.now slice.limits slice.units over.old over.new told.old told.new result }
 {
-    let Thing::Instance(stage) = thing else {
+    let Thing::Instance(stage, _) = thing else {
         return KIND;
     };
     let taken = replace(&mut **stage, InstanceStage::Gone);

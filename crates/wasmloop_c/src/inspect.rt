@@ -57,7 +57,7 @@ fn inspected(thing: &Thing) -> Option<(&Linked, &State)>
     ensures stands { Stands thing.now }
 {
     match thing {
-        Thing::Instance(stage) => of_stage(stage),
+        Thing::Instance(stage, _) => of_stage(stage),
         Thing::Loop(_, _) => {
             let core = resting_in(thing)?;
             Some((core.linked(), core.store()))

@@ -78,7 +78,7 @@ fn open(
         return NOT_STARTED;
     };
     *stage = InstanceStage::Resident(resident);
-    *whole = Thing::Instance(stage);
+    *whole = Thing::Instance(stage, Vec::new(alloc));
     handle.put(alloc, whole);
     OK
 }
@@ -259,7 +259,7 @@ fn call(
 ) -> u32
     ensures { OnResident thing.old thing.new result (told.new ≡ told.old) (λ a b. CallsBy a name.now numbers.now limits told.old told.new result b) }
 {
-    let Thing::Instance(stage) = thing else {
+    let Thing::Instance(stage, _) = thing else {
         return KIND;
     };
     call_stage(alloc, stage, name, numbers, limits, told)
@@ -300,7 +300,7 @@ fn write_stage(stage: &mut InstanceStage, at: u32, bytes: &[u8]) -> u32
 fn write(thing: &mut Thing, at: u32, bytes: &[u8]) -> u32
     ensures { OnResident thing.old thing.new result (Unit {0}) (λ a b. WritesMemory a at bytes.now result b) }
 {
-    let Thing::Instance(stage) = thing else {
+    let Thing::Instance(stage, _) = thing else {
         return KIND;
     };
     write_stage(stage, at, bytes)

@@ -59,7 +59,7 @@ fn kind_of(thing: &Thing) -> u32
     match thing {
         Thing::Module(_) => HOLDS_MODULE,
         Thing::Job(stage) => kind_of_job(stage),
-        Thing::Instance(stage) => kind_of_call(stage),
+        Thing::Instance(stage, _) => kind_of_call(stage),
         Thing::Loop(stage, _) => kind_of_loop(stage),
         Thing::Gone => HOLDS_NOTHING,
     }

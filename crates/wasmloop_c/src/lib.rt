@@ -8,6 +8,8 @@
 //! The raw pointers are in `raw`, and in the crate `slot`.
 #![tactic(auto)]
 
+mod bytes_calls;
+mod bytes_host;
 mod call_slices;
 mod checked;
 mod contents;

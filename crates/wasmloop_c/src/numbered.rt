@@ -90,7 +90,7 @@ fn call(
 ) -> u32
     ensures { OnResident thing.old thing.new result (told.new ≡ told.old) (λ a b. CallsAt a number numbers.now limits told.old told.new result b) }
 {
-    let Thing::Instance(stage) = thing else {
+    let Thing::Instance(stage, _) = thing else {
         return KIND;
     };
     call_stage(alloc, stage, number, numbers, limits, told)

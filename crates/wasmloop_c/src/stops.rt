@@ -202,7 +202,7 @@ pub fn stopped(thing: &Thing) -> Option<Stopped<'_>>
             Some((stop_of_loop(core), core.module_bytes()))
         }
         Thing::Job(stage) => job_stopped(stage),
-        Thing::Instance(stage) => call_stopped(stage),
+        Thing::Instance(stage, _) => call_stopped(stage),
         _ => None,
     }
 }

@@ -22,8 +22,8 @@ pub enum Thing {
     Loop(Box<LoopStage, Global>, u32),
     /// A job. Its room is as large at each stage, so that none takes memory that the others didn't.
     Job(Box<JobStage, Global>),
-    /// An instance that is kept from call to call, in room that a call in slices has too.
-    Instance(Box<InstanceStage, Global>),
+    /// An instance that is kept from call to call, in room that a call in slices has too, and the reply of its last call with bytes.
+    Instance(Box<InstanceStage, Global>, Vec<u8>),
     /// Nothing, while a call is at work.
     Gone,
 }

@@ -41,11 +41,11 @@ CallsExport a number numbers bytes limits ended b reply =
     (function : ℕ) × (args : List Value) × TakesNumbers a (ExportsAt a.loaded.contents number) numbers function args
     × CallsWithBytes a limits function args bytes ended b reply
 
--- The same, or there is no such call: then nothing changes.
+-- The same, or there is no such call: then nothing changes. (It always takes memory.)
 abbrev pub CallsBytes : KeptInstance → (number : ℕ) → (numbers bytes : List ℕ) → CallLimits → (before told : CallEnded) → (last reply : List ℕ) → (status : ℕ) → KeptInstance → Type 0
 CallsBytes a number numbers bytes limits before told last reply status b =
     ((status ≡ OK) × ((ended : Ended) × CallsExport a number numbers bytes limits ended b reply × (told ≡ call_numbers ended)))
-    ⊎ (IsNoCall a (ExportsNoFunctionAt a.loaded.contents number) (ExportsAt a.loaded.contents number) numbers status
+    ⊎ (IsNoCall a (ExportsNoFunctionAt a.loaded.contents number) (ExportsAt a.loaded.contents number) (Unit {0}) numbers status
     × (b ≡ a) × (told ≡ before) × (reply ≡ last))
 
 -- the reply of the last call with bytes of the instance that a thing is

@@ -20,6 +20,3 @@ unfailed_in w n c None at h =
     let same : c ≡ core g now = cc in
     subst (λ (x : Core Desk). is_failed x.loop.state.status ≡ false) same h
 unfailed_in w n c (Some halt) at h = tt
-
-pub none_failed : (w : World) (n : ℕ) → slice_get w.loops n ≡ None → HasUnfailed w n
-none_failed w n none g now has = absurd (let both : None ≡ Some (core g now) = sym none ∙ has in cc)

@@ -4,12 +4,15 @@ and the tools, with the same bytes wherever it is made.
 It is what pip calls for `pip install ./capi` (PEP 517), and a program: make_wheel.py FOLDER
 """
 
+from __future__ import annotations
+
 import base64
 import hashlib
 import os
 import re
 import sys
 import zipfile
+from typing import Iterator, Tuple
 
 CAPI = os.path.dirname(os.path.realpath(__file__))
 TOP = os.path.dirname(CAPI)
@@ -20,16 +23,16 @@ PROGRAM = "wasmloop/program"
 TAG = "py3-none-manylinux_2_17_x86_64.manylinux2014_x86_64"
 
 
-def read(path):
+def read(path: str) -> bytes:
     with open(path, "rb") as file:
         return file.read()
 
 
-def version():
-    return re.search(r'#define WASMLOOP_VERSION "(.*)"', read(f"{CAPI}/include/wasmloop.h").decode())[1]
+def version() -> str:
+    return str(re.findall(r'#define WASMLOOP_VERSION "(.*)"', read(f"{CAPI}/include/wasmloop.h").decode())[0])
 
 
-def package():
+def package() -> Iterator[Tuple[str, str]]:
     """The files of the package, as where they go and where they are: the tools, and the headers and sources for guests."""
     for folder in ("wasmloop", "wasmloop/lowering"):
         for name in sorted(os.listdir(f"{CAPI}/python/{folder}")):
@@ -41,7 +44,7 @@ def package():
         yield f"wasmloop/guest/{os.path.basename(name)}", f"{CAPI}/{name}"
 
 
-def build_wheel(folder, config_settings=None, metadata_directory=None):
+def build_wheel(folder: str, config_settings: object = None, metadata_directory: object = None) -> str:
     name, tags = f"wasmloop-{version()}", "".join(f"Tag: py3-none-{it}\n" for it in TAG.split("-")[2].split("."))
     info = f"{name}.dist-info"
     files = {
@@ -69,7 +72,7 @@ def build_wheel(folder, config_settings=None, metadata_directory=None):
     return made
 
 
-def build_sdist(folder, config_settings=None):
+def build_sdist(folder: str, config_settings: object = None) -> str:
     raise NotImplementedError("the wheel is made of the repository, and needs no other archive")
 
 

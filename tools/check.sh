@@ -19,9 +19,15 @@ if has shellcheck; then files '*.sh' wasmloop .ci/run .ci/nightly | xargs shellc
 width=$(sed -n 's/^max_line_length = //p' .editorconfig | head -n 1)
 if has flake8; then files '*.py' | xargs flake8 --max-line-length="$width" || wrong=1; fi
 # (what has no types yet: a folder leaves this list once all of it has them)
-untyped='^bench/|^capi/test/|^capi/make_wheel|^examples/|^hosts/|^trials/'
+untyped='^bench/(cost|embed|fuel|kernels|libraries|peers)/|^capi/test/|^examples/|^hosts/'
+# mypy of some files, or of those in a folder: modules of several folders have one name
+strict() { mypy --strict --no-error-summary --cache-dir="${XDG_CACHE_HOME:-$HOME/.cache}/wasmloop/mypy" "$@"; }
 if has mypy; then
-    { files '*.py' | grep -vE "$untyped"; files trials/dispatch/run.py; } | xargs mypy --strict --no-error-summary --cache-dir=/dev/null || wrong=1
+    # shellcheck disable=SC2046 # (no file's name has a blank)
+    strict $(files '*.py' | grep -vE "$untyped|^bench/|^trials/") || wrong=1
+    for folder in $(files 'bench/*.py' 'trials/*.py' | grep -vE "$untyped" | sed 's|/[^/]*$||' | sort -u); do
+        MYPYPATH=capi/python:trials/programs:trials/spec strict "$folder"/*.py || wrong=1
+    done
 fi
 if has cc; then for file in capi/wasmloop.c capi/names.c; do try cc -std=c99 -Wall -Wextra -Werror -Icapi/include -fsyntax-only "$file"; done; fi
 exit $wrong

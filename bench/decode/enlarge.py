@@ -6,8 +6,12 @@
 The code section's bodies are repeated, with as many entries in the function section, while the module stays within
 BYTES (by default the 1,048,576 that a module may have) and within 4,096 functions. All other sections are kept.
 """
+
+from __future__ import annotations
+
 import sys
 from pathlib import Path
+from typing import Iterable, Iterator, List, Tuple
 
 sys.path.insert(0, str(Path(__file__).resolve().parents[2] / "trials" / "spec"))
 from wasm import Reader, name, u, vec  # noqa: E402
@@ -16,18 +20,18 @@ MOST_FUNCTIONS = 4096
 FUNCTIONS, CODE = 3, 10
 
 
-def sections(data):
+def sections(data: bytes) -> Iterator[Tuple[int, bytes]]:
     """The number and the contents of each section."""
     r = Reader(data, 8)
     while r.at < r.end:
         yield r.byte(), r.name()
 
 
-def module(parts):
+def module(parts: Iterable[Tuple[int, bytes]]) -> bytes:
     return b"\0asm\1\0\0\0" + b"".join(bytes([number]) + name(contents) for number, contents in parts)
 
 
-def main(words):
+def main(words: List[str]) -> None:
     data = open(words[0], "rb").read()
     most = int(words[2]) if len(words) > 2 else 1_048_576
     parts = dict(sections(data))

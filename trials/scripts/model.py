@@ -3,8 +3,15 @@
 It runs a script whose guests are guest.c with a table of calls, and tells the lines of its log, without the fuel used.
 A handle's number is the host's choice: the model asks `chosen` for it and says only that it must be a free one.
 """
-from dataclasses import dataclass, field
 
+from __future__ import annotations
+
+from dataclasses import dataclass, field
+from typing import Any, Callable, Dict, List, Mapping, Optional, Sequence, Tuple, TypeVar
+
+Call = Mapping[str, Any]  # of a table: its name, and numbers by theirs
+Entry = Tuple[Any, ...]  # of a phase: a kind, a number, and of some the start
+Item = TypeVar("Item")
 EPERM, EAGAIN, EFAULT, EBUSY, EINVAL, ENOSPC, ECANCELED = -1, -11, -14, -16, -22, -28, -125
 TOP = 2**64 - 1
 MEMORY = 65536
@@ -12,7 +19,7 @@ CALLBACKS, VARIANTS, NUMBERS = 6, 3, 32
 PHASES = ["begin", "timers", "idle", "poll", "check", "closing"]
 
 
-def i32(n):
+def i32(n: int) -> int:
     return (n + 2**31) % 2**32 - 2**31
 
 
@@ -53,7 +60,7 @@ class Job:
     is_started: bool = False
 
 
-def computed(operation, content):
+def computed(operation: int, content: bytes) -> Tuple[int, int, bytes]:
     """Kind, code and reply of a work function of guest.c."""
     which = operation % 8
     if which == 0:
@@ -70,33 +77,33 @@ def computed(operation, content):
 @dataclass
 class Loop:
     number: int
-    table: list  # of each list of calls
-    chosen: object  # a function that gives the next new handle's number
+    table: List[List[Call]]  # of each list of calls
+    chosen: Callable[[], int]  # gives the next new handle's number
     now: int = 0
     clock: int = 0
     phase: int = 0
-    rest: list = field(default_factory=lambda: [("main", 0)])
+    rest: List[Entry] = field(default_factory=lambda: [("main", 0)])
     status: str = "running"
-    handles: dict = field(default_factory=dict)
-    closing: list = field(default_factory=list)
-    asyncs: list = field(default_factory=list)  # the handle of each
-    waiting: list = field(default_factory=lambda: [0] * 16)
-    requests: dict = field(default_factory=dict)
-    replies: list = field(default_factory=list)
+    handles: Dict[int, Handle] = field(default_factory=dict)
+    closing: List[int] = field(default_factory=list)
+    asyncs: List[int] = field(default_factory=list)  # the handle of each
+    waiting: List[int] = field(default_factory=lambda: [0] * 16)
+    requests: Dict[int, Request] = field(default_factory=dict)
+    replies: List[Tuple[int, int, int, bytes]] = field(default_factory=list)
     last_start: int = 0
     last_request: int = 0
-    kept: list = field(default_factory=lambda: [0] * NUMBERS)
-    times: list = field(default_factory=lambda: [0] * (CALLBACKS + 1))
-    emits: list = field(default_factory=list)
-    reading: object = None
+    kept: List[int] = field(default_factory=lambda: [0] * NUMBERS)
+    times: List[int] = field(default_factory=lambda: [0] * (CALLBACKS + 1))
+    emits: List[int] = field(default_factory=list)
+    reading: Optional[bytes] = None
 
     # what a guest calls
 
-    def next_start(self):
+    def next_start(self) -> int:
         self.last_start = min(self.last_start + 1, TOP)
         return self.last_start
 
-    def made(self, kind, number=0):
+    def made(self, kind: str, number: int = 0) -> int:
         if len(self.handles) == 64:
             return EAGAIN
         handle = self.chosen()
@@ -104,21 +111,21 @@ class Loop:
         self.handles[handle] = Handle(kind, number)
         return handle
 
-    def of(self, handle, kind=None):
+    def of(self, handle: int, kind: Optional[str] = None) -> Optional[Handle]:
         h = self.handles.get(handle % 2**32)
         return h if h and not h.closing and kind in (None, h.kind) else None
 
-    def start(self, h, callback, due=0, repeat=0):
+    def start(self, h: Handle, callback: int, due: int = 0, repeat: int = 0) -> None:
         h.active, h.callback, h.due, h.repeat, h.start = True, callback, due, repeat, self.next_start()
 
-    def timer_start(self, handle, callback, timeout, repeat):
+    def timer_start(self, handle: int, callback: int, timeout: int, repeat: int) -> int:
         h = self.of(handle, "timer")
         if not h or callback >= CALLBACKS:
             return EINVAL
         self.start(h, callback, min(self.now + timeout, TOP), repeat)
         return 0
 
-    def timer_again(self, handle):
+    def timer_again(self, handle: int) -> int:
         h = self.of(handle, "timer")
         if not h or h.start == 0:
             return EINVAL
@@ -127,14 +134,14 @@ class Loop:
             self.start(h, h.callback, min(self.now + h.repeat, TOP), h.repeat)
         return 0
 
-    def stop(self, handle, kind):
+    def stop(self, handle: int, kind: str) -> int:
         h = self.of(handle, kind)
         if not h:
             return EINVAL
         h.active = False
         return 0
 
-    def plain_start(self, handle, kind, callback):
+    def plain_start(self, handle: int, kind: str, callback: int) -> int:
         h = self.of(handle, kind)
         if not h or callback >= CALLBACKS:
             return EINVAL
@@ -142,7 +149,7 @@ class Loop:
             self.start(h, callback)
         return 0
 
-    def async_init(self, callback):
+    def async_init(self, callback: int) -> int:
         if callback >= CALLBACKS:
             return EINVAL
         if len(self.asyncs) == 16:
@@ -153,18 +160,18 @@ class Loop:
             self.start(self.handles[handle], callback)
         return handle
 
-    def async_send(self, handle):
+    def async_send(self, handle: int) -> int:
         h = self.of(handle, "async")
         if not h:
             return EINVAL
         self.waiting[h.number] += 1
         return 0
 
-    def is_active(self, handle):
+    def is_active(self, handle: int) -> int:
         h = self.handles.get(handle % 2**32)
         return EINVAL if not h else int(h.active)
 
-    def close(self, handle, callback):
+    def close(self, handle: int, callback: int) -> int:
         h = self.of(handle)
         if not h or callback >= CALLBACKS:
             return EINVAL
@@ -172,7 +179,7 @@ class Loop:
         self.closing.append(handle % 2**32)
         return 0
 
-    def queue_work(self, operation, place, length):
+    def queue_work(self, operation: int, place: Optional[int], length: int) -> int:
         if length > 65536:
             return EINVAL
         if place is None or place >= MEMORY or length > 256:
@@ -184,7 +191,7 @@ class Loop:
         self.requests[self.last_request] = Request(operation, content)
         return self.last_request
 
-    def cancel(self, number):
+    def cancel(self, number: int) -> int:
         r = self.requests.get(number)
         if not r or r.state == "cancelled":
             return EINVAL
@@ -193,7 +200,7 @@ class Loop:
         r.state, r.kind, r.code = "cancelled", 5, ECANCELED
         return 0
 
-    def in_copy(self, is_outside, start, count):
+    def in_copy(self, is_outside: bool, start: int, count: int) -> int:
         if self.reading is None:
             return EPERM
         if start + count > len(self.reading):
@@ -202,13 +209,13 @@ class Loop:
 
     # the callbacks of guest.c
 
-    def emit(self, value):
+    def emit(self, value: int) -> int:
         if len(self.emits) == 64:
             return ENOSPC
         self.emits.append(value)
         return 0
 
-    def answer(self, c):
+    def answer(self, c: Call) -> int:
         a = self.kept[c["a"] % NUMBERS] if c["is_kept"] else c["a"]
         place = c["b"] if not c["d"] else None
         name = c["call"]
@@ -232,9 +239,10 @@ class Loop:
             return self.in_copy(c["d"] != 0, c["b"], c["c"])
         if name == "out_set":
             return EPERM
-        return getattr(self, name)(a)
+        answer: int = getattr(self, name)(a)
+        return answer
 
-    def run_list(self, which):
+    def run_list(self, which: int) -> None:
         for c in self.table[which]:
             if c["call"] in ("trap", "deep", "spin"):
                 raise Trap({"trap": "trap 1", "deep": "depth", "spin": "spent"}[c["call"]])
@@ -247,29 +255,29 @@ class Loop:
             self.kept[c["to"]] = i32(given)
             self.emit(given if given < 2**63 else given - 2**64)
 
-    def callback(self, k, handle):
+    def callback(self, k: int, handle: int) -> None:
         self.emit(handle)
         times = self.times[k]
         self.run_varied(k, 1 + VARIANTS * k + times)
 
-    def run_varied(self, k, which):
+    def run_varied(self, k: int, which: int) -> None:
         self.run_list(which)
         self.times[k] = min(self.times[k] + 1, VARIANTS - 1)
 
-    def after_work(self, number, r):
+    def after_work(self, number: int, r: Request) -> None:
         for value in (number, r.kind, r.code, 0, sum(r.reply)):
             self.emit(value)
         self.run_varied(CALLBACKS, 1 + VARIANTS * CALLBACKS + self.times[CALLBACKS])
 
     # one step
 
-    def is_alive(self):
+    def is_alive(self) -> bool:
         return any(h.active or h.closing for h in self.handles.values()) or bool(self.requests)
 
-    def active(self, kind):
+    def active(self, kind: str) -> List[Tuple[int, int]]:
         return sorted((h.start, n) for n, h in self.handles.items() if h.kind == kind and h.active)
 
-    def listed(self):
+    def listed(self) -> List[Entry]:
         phase = PHASES[self.phase]
         if phase == "timers":
             due = sorted((h.due, h.start, n) for n, h in self.handles.items() if h.kind == "timer" and h.active)
@@ -277,15 +285,15 @@ class Loop:
         if phase in ("idle", "check"):
             return [(phase, n, start) for start, n in self.active(phase)]
         if phase == "poll":
-            ready = [("after", n) for n in sorted(self.requests) if self.requests[n].state in ("answered", "cancelled")]
+            ready: List[Entry] = [("after", n) for n in sorted(self.requests) if self.requests[n].state in ("answered", "cancelled")]
             return ready + [("async", n) for k, n in enumerate(self.asyncs) if self.is_async(n, k)]
         return [("close", n) for n in self.closing]
 
-    def is_async(self, handle, number):
+    def is_async(self, handle: int, number: int) -> bool:
         h = self.handles.get(handle)
         return h is not None and h.kind == "async" and h.active and h.number == number
 
-    def step(self):
+    def step(self) -> str:
         if self.status != "running":
             return self.status
         if self.rest:
@@ -299,7 +307,7 @@ class Loop:
         self.rest = self.listed()
         return f"enter {PHASES[self.phase]} {self.now}"
 
-    def entry(self, entry):
+    def entry(self, entry: Entry) -> str:
         kind, number = entry[:2]
         self.emits, self.reading = [], None
         if kind == "main":
@@ -324,7 +332,7 @@ class Loop:
                 self.start(h, h.callback, min(self.now + h.repeat, TOP), h.repeat)
         return self.told(kind, number, lambda: self.callback(h.callback, number))
 
-    def told(self, kind, number, run):
+    def told(self, kind: str, number: int, run: Callable[[], None]) -> str:
         try:
             run()
             ending = "return"
@@ -337,20 +345,20 @@ class Loop:
 
 @dataclass
 class World:
-    loops: list
-    hands: list
-    jobs: list = field(default_factory=list)
+    loops: List[Loop]
+    hands: List[Optional[Job]]
+    jobs: List[Job] = field(default_factory=list)
 
-    def at(self, items, k):
+    def at(self, items: Sequence[Item], k: int) -> Item:
         if k >= len(items):
             raise Fault
         return items[k]
 
-    def step(self, name, *n):
+    def step(self, name: str, *n: int) -> str:
         """The line of one step."""
         if name in ("take", "start", "finish"):
             self.at(self.hands, n[0])
-            return f"{name} {n[0]} " + getattr(self, name)(n[0])
+            return f"{name} {n[0]} {getattr(self, name)(n[0])}"
         loop = self.at(self.loops, n[0])
         if name == "loop":
             return f"loop {n[0]} " + loop.step()
@@ -365,9 +373,9 @@ class World:
             return f"clock {n[0]} {loop.clock}"
         if name == "cancel":
             return f"cancel {n[0]} {n[1]} answer {loop.cancel(n[1])}"
-        return f"{name} {n[0]} " + getattr(self, name)(loop)
+        return f"{name} {n[0]} {getattr(self, name)(loop)}"
 
-    def post(self, loop):
+    def post(self, loop: Loop) -> str:
         if len(self.jobs) == 256:
             return "full"
         ready = [n for n in sorted(loop.requests) if loop.requests[n].state == "open"]
@@ -377,13 +385,13 @@ class World:
         self.jobs.append(Job(loop, ready[0]))
         return f"request {ready[0]}"
 
-    def take(self, w):
+    def take(self, w: int) -> str:
         if self.hands[w] or not self.jobs:
             return "none"
-        self.hands[w] = self.jobs.pop(0)
-        return f"loop {self.hands[w].loop.number} request {self.hands[w].request}"
+        self.hands[w] = job = self.jobs.pop(0)
+        return f"loop {job.loop.number} request {job.request}"
 
-    def start(self, w):
+    def start(self, w: int) -> str:
         job = self.hands[w]
         if not job or job.is_started:
             return "none"
@@ -395,7 +403,7 @@ class World:
         r.state, job.is_started = "started", True
         return line + "begun"
 
-    def finish(self, w):
+    def finish(self, w: int) -> str:
         job = self.hands[w]
         if not job or not job.is_started:
             return "none"
@@ -406,7 +414,7 @@ class World:
         how = [f"done {code}", f"trap {code}", "depth", "spent"][kind]
         return f"loop {job.loop.number} request {job.request} {how}"
 
-    def collect(self, loop):
+    def collect(self, loop: Loop) -> str:
         if not loop.replies:
             return "none"
         number, kind, code, reply = loop.replies.pop(0)

@@ -8,7 +8,11 @@ in random callbacks (guest.c, which wants clang and wasm-ld). Logs are compared 
 callback used and for which free number a new handle gets, which is the host's choice. Each script that differs is kept
 in FOLDER with both logs. The status is 1 if one does.
 """
+
+from __future__ import annotations
+
 import argparse
+import collections
 import json
 import pathlib
 import random
@@ -18,20 +22,21 @@ import struct
 import subprocess
 import sys
 import tempfile
-from collections import Counter
 
-from model import CALLBACKS, VARIANTS, Fault, Loop, World
+from model import CALLBACKS, VARIANTS, Call, Fault, Loop, World
+from typing import Any, Callable, Counter, Dict, List, Sequence, Tuple
 
+Step = List[Any]  # a name, and numbers
 HERE = pathlib.Path(__file__).resolve().parent
 # what a call's number means: guest.c alone says it
-CALLS = re.sub(r"\s", "", re.search(r"^enum \{\n(.*?)\};", (HERE / "guest.c").read_text(), re.M | re.S)[1]).lower().split(",")
+CALLS = re.sub(r"\s", "", re.findall(r"(?ms)^enum \{\n(.*?)\};", (HERE / "guest.c").read_text())[0]).lower().split(",")
 LISTS, MOST_CALLS = 24, 200
 MAKING = ["timer_init", "idle_init", "check_init", "async_init"]
 LIVELY = MAKING + ["timer_start", "timer_start", "idle_start", "check_start", "async_send", "queue_work", "queue_work", "close"]
 MARK = b"table of calls.\0"
 
 
-def compiled(folder):
+def compiled(folder: pathlib.Path) -> Tuple[bytes, int]:
     """The module of guest.c, and where its table begins."""
     shutil.copy(HERE / "guest.c", folder)
     subprocess.run(["sh", HERE.parent.parent / "examples" / "build.sh", folder / "guest"], check=True)
@@ -39,9 +44,10 @@ def compiled(folder):
     return data, data.index(MARK) + len(MARK)
 
 
-def random_call(r):
+def random_call(r: random.Random) -> Call:
     name = r.choice(LIVELY) if r.random() < 0.6 else r.choice(CALLS[1:-4])
-    call = {"call": name, "to": r.randrange(32), "is_kept": True, "callback": r.randrange(CALLBACKS), "a": r.randrange(32), "b": 0, "c": 0, "d": 0}
+    call: Dict[str, Any] = {"call": name, "to": r.randrange(32), "is_kept": True, "callback": r.randrange(CALLBACKS)}
+    call.update(a=r.randrange(32), b=0, c=0, d=0)
     if r.random() < 0.04:
         call["callback"] = CALLBACKS
     if r.random() < 0.1:
@@ -62,9 +68,10 @@ def random_call(r):
     return call
 
 
-def random_table(r):
+def random_table(r: random.Random) -> List[List[Call]]:
     """For each list of guest.c its calls. Handles are made, kept in order and then used."""
-    table, room = [], MOST_CALLS - LISTS
+    table: List[List[Call]] = []
+    room = MOST_CALLS - LISTS
     for which in range(LISTS):
         if which == 0:
             count = r.randrange(4, 30)
@@ -81,9 +88,10 @@ def random_table(r):
     return table
 
 
-def packed(table):
+def packed(table: Sequence[Sequence[Call]]) -> bytes:
     """The bytes of a table, as guest.c reads them."""
-    first, calls = [], b""
+    first: List[int] = []
+    calls = b""
     for listed in table:
         first.append(len(calls) // 32)
         for c in [*listed, {"call": "end", "to": 0, "is_kept": False, "callback": 0, "a": 0, "b": 0, "c": 0, "d": 0}]:
@@ -91,8 +99,9 @@ def packed(table):
     return struct.pack(f"<{LISTS}H", *first) + calls
 
 
-def random_steps(r, loops, workers, count):
-    steps, names = [], ["loop"] * 12 + ["post", "post", "take", "start", "finish", "collect", "collect", "send", "cancel", "clock"]
+def random_steps(r: random.Random, loops: int, workers: int, count: int) -> List[Step]:
+    steps: List[Step] = []
+    names = ["loop"] * 12 + ["post", "post", "take", "start", "finish", "collect", "collect", "send", "cancel", "clock"]
     for _ in range(count):
         name, loop = r.choice(names), r.randrange(loops)
         if name in ("take", "start", "finish"):
@@ -111,17 +120,18 @@ def random_steps(r, loops, workers, count):
     return steps
 
 
-def emitted(line):
+def emitted(line: str) -> List[int]:
     words = line.split(" emit ")
     return [int(word) for word in words[1].split()] if len(words) == 2 else []
 
 
-def expected(tables, workers, steps, log):
+def expected(tables: Sequence[List[List[Call]]], workers: int, steps: Sequence[Step], log: Sequence[str]) -> List[str]:
     """The model's log. The number of each new handle is read off the program's line: what the guest emitted there."""
-    lines, now = [], [0]
+    lines: List[str] = []
+    now = [0]
 
-    def chooser(number):
-        def chosen():
+    def chooser(number: int) -> Callable[[], int]:
+        def chosen() -> int:
             loop = loops[number]
             values = emitted(log[now[0]]) if now[0] < len(log) else []
             at = len(loop.emits)
@@ -139,11 +149,11 @@ def expected(tables, workers, steps, log):
     return lines
 
 
-def without_fuel(text):
+def without_fuel(text: str) -> List[str]:
     return [re.sub(r" used \d+", "", line) for line in text.splitlines()]
 
 
-def one(number, options, module, start, folder, seen):
+def one(number: int, options: argparse.Namespace, module: bytes, start: int, folder: pathlib.Path, seen: Counter[str]) -> bool:
     r = random.Random(f"{options.seed} {number}")
     tables = [random_table(r) for _ in range(r.choice([1, 1, 2, 3]))]
     workers = r.randrange(4)
@@ -174,7 +184,7 @@ def one(number, options, module, start, folder, seen):
     return False
 
 
-def main():
+def main() -> None:
     parser = argparse.ArgumentParser()
     parser.add_argument("program")
     parser.add_argument("--count", type=int, default=1000)
@@ -182,7 +192,8 @@ def main():
     parser.add_argument("--seed", default="1")
     parser.add_argument("--keep", default="script-differences")
     options = parser.parse_args()
-    seen, differences = Counter(), 0
+    seen: Counter[str] = collections.Counter()
+    differences = 0
     with tempfile.TemporaryDirectory() as name:
         folder = pathlib.Path(name)
         module, start = compiled(folder)

@@ -8,14 +8,26 @@ job is run at once, and the same job again in slices of random lengths. Outcome,
 the same, a slice uses some of its units and no more, and a job that copies no bytes uses them all. Then a job of 10^9 units, at once
 and in 10,000 slices, with the time of both. The status is 1 where anything differs.
 """
+
+from __future__ import annotations
+
 import argparse
+import functools
 import os
 import random
 import subprocess
 import sys
 import time
 from pathlib import Path
+from types import ModuleType
+from typing import TYPE_CHECKING, Callable, Dict, Iterator, List, Tuple, TypeVar
 
+if TYPE_CHECKING:
+    from wasmloop import Job, Module, Reply, Site
+
+    Make = Callable[[], Job]
+    Told = Tuple[Reply, List[Site]]
+Done = TypeVar("Done")
 HERE = Path(__file__).resolve().parent
 LONG, SLICES = 10**9, 10_000
 
@@ -27,17 +39,17 @@ COUNTS = bytes.fromhex(
 TURN = 9
 
 
-def told(job):
+def told(job: Job) -> Told:
     """What is told of a job that is over."""
     return job.reply(), job.stop()
 
 
-def at_once(make):
+def at_once(make: Make) -> Told:
     with make() as job:
         return told(job.run())
 
 
-def in_slices(make, next_units, fuel):
+def in_slices(make: Make, next_units: Callable[[], int], fuel: int) -> Tuple[Told, int, int, int]:
     """What is told of a job that runs in slices, the units of its last slice, and how many it paused before."""
     used, pauses = 0, 0
     with make() as job:
@@ -50,13 +62,13 @@ def in_slices(make, next_units, fuel):
                 sys.exit(f"a job of {fuel} units is paused after {used}, by a slice of {units} after {before}")
 
 
-def lengths(chance, used):
+def lengths(chance: random.Random, used: int) -> Callable[[], int]:
     """Lengths of slices, from single units to more than all."""
     most = chance.choice([1, 2, 3, 17, 100, max(1, used // 3), used + 1])
     return lambda: chance.randint(1, most)
 
 
-def compare(name, make, chance, fuel):
+def compare(name: str, make: Make, chance: random.Random, fuel: int) -> Tuple[bool, str, int]:
     """Whether a job in slices is told of as it is when run at once; the outcome, and how many pauses it made."""
     wanted = at_once(make)
     got, used, last, pauses = in_slices(make, lengths(chance, wanted[0].used), fuel)
@@ -66,17 +78,17 @@ def compare(name, make, chance, fuel):
     return False, wanted[0].outcome, pauses
 
 
-def jobs(module, name, chance, tries):
+def jobs(module: Module, name: str, chance: random.Random, tries: int) -> Iterator[Tuple[str, Make, int]]:
     """Jobs of a module, each as its name, a function that makes it, and its fuel."""
     words = chance.randrange(2**32), chance.randbytes(chance.choice([0, 3, 64, 1000]))
     whole = module.work(*words, fuel=2_000_000, depth=64).used
     for number in range(tries):
         fuel = 2_000_000 if number == 0 else chance.randint(0, whole + 2)
         depth = 64 if number < 2 else chance.randint(1, 8)
-        yield f"{name}, try {number}", lambda fuel=fuel, depth=depth: module.job(*words, fuel=fuel, depth=depth), fuel
+        yield f"{name}, try {number}", functools.partial(module.job, *words, fuel=fuel, depth=depth), fuel
 
 
-def guests(count, seed):
+def guests(count: int, seed: int) -> Iterator[Tuple[str, bytes]]:
     """The modules: their names and bytes."""
     for path in sorted((HERE.parents[1] / "examples").glob("*.wasm")):
         if b"uv_work" in path.read_bytes():
@@ -86,9 +98,10 @@ def guests(count, seed):
         yield f"module {number} of seed {seed}", bytes.fromhex(line)
 
 
-def compare_all(wasmloop, count, seed):
+def compare_all(wasmloop: ModuleType, count: int, seed: int) -> int:
     """Compares each job of each module; how many differ."""
-    chance, outcomes, modules, pauses, differ = random.Random(seed), {}, 0, 0, 0
+    chance, modules, pauses, differ = random.Random(seed), 0, 0, 0
+    outcomes: Dict[str, int] = {}
     for name, data in guests(count, seed):
         try:
             module = wasmloop.Module(data)
@@ -103,17 +116,18 @@ def compare_all(wasmloop, count, seed):
     return differ
 
 
-def timed(work):
+def timed(work: Callable[[], Done]) -> Tuple[Done, float]:
     began = time.monotonic()
     return work(), time.monotonic() - began
 
 
-def compare_long(wasmloop):
+def compare_long(wasmloop: ModuleType) -> int:
     """A job of 10^9 units, at once and in slices; 1 where they differ."""
     module = wasmloop.Module(COUNTS)
 
-    def make():
-        return module.job(LONG // TURN - 1, fuel=LONG, depth=1)
+    def make() -> Job:
+        made: Job = module.job(LONG // TURN - 1, fuel=LONG, depth=1)
+        return made
 
     wanted, once = timed(lambda: at_once(make))
     (got, _, _, pauses), sliced = timed(lambda: in_slices(make, lambda: LONG // SLICES, LONG))
@@ -121,7 +135,7 @@ def compare_long(wasmloop):
     return int(got != wanted or wanted[0].outcome != "done" or pauses + 1 != SLICES)
 
 
-def main():
+def main() -> None:
     words = argparse.ArgumentParser()
     words.add_argument("folder")
     words.add_argument("--modules", type=int, default=1000)

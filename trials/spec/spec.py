@@ -12,6 +12,9 @@ Every module is first given to `check` as it is. Modules with floats, with instr
 floats trap, imports are built in. `invoke` makes a new instance each time. So where earlier calls may have written to the
 instance, a function is added that makes those calls again in their order, and then the one that is asked for.
 """
+
+from __future__ import annotations
+
 import argparse
 import collections
 import json
@@ -22,6 +25,7 @@ import sys
 import tempfile
 
 from wasm import FLOAT, I32, I64, Module, Outside, is_write, name, s, u, without_floats
+from typing import Any, Callable, Counter, Dict, List, Mapping, Optional, Sequence, Tuple
 
 FUEL, DEPTH = "2000000000", "128"
 TYPES = {"i32": I32, "i64": I64}
@@ -44,7 +48,7 @@ FAULTS = [
     ("unexpected content", "decode 5"), ("junk", "decode 5"), ("END opcode expected", "decode 3 decode 6"),
 ]
 # More than this, and the project refuses a module (docs/LIMITS.md). Limits of a single function are in wasm.py.
-LIMITS = [
+LIMITS: List[Tuple[str, Callable[[Module, bytes], bool]]] = [
     ("a file of more than 1 MiB", lambda m, data: len(data) > 1 << 20),
     ("a memory of more than 64 pages", lambda m, data: any(least > 64 for least, _ in m.memories)),
     ("a table of more than 4,096 elements", lambda m, data: any(least > 4096 for _, least, _ in m.tables)),
@@ -55,6 +59,9 @@ LIMITS = [
 ]
 
 
+Command = Mapping[str, Any]  # of the suite, as JSON
+
+
 class Skip(Exception):
     """The text says why something can't be tried."""
 
@@ -62,9 +69,12 @@ class Skip(Exception):
 class Instance:
     """A module of the suite, as it can be given to the program, and the calls made on it so far that may have written."""
 
-    def __init__(self, data):
-        self.data, self.module, self.why, self.changed = data, None, None, ""
-        self.calls, self.trapped, self.lost = [], False, None
+    def __init__(self, data: bytes) -> None:
+        self.data, self.changed, self.trapped = data, "", False
+        self.why: Optional[str] = None
+        self.lost: Optional[str] = None
+        self.module: Optional[Module] = None
+        self.calls: List[Command] = []
         try:
             self.module = Module(data)
             self.writers = self.module.which(is_write)
@@ -80,29 +90,36 @@ class Instance:
         if self.start in self.module.dead:
             self.why = f"its start function has {self.module.dead[self.start]}"
 
-    def limit(self):
+    def limit(self) -> Optional[str]:
         return next((why for why, test in LIMITS if self.module and test(self.module, self.data)), None)
 
-    def row(self, action):
+    def row(self, action: Command) -> bytes:
         """The module with one more function, exported as "row", that makes the earlier calls and then the one of `action`."""
         module = Module(self.data)
         body = b""
         for call in self.calls:
-            to = module.exported(call["field"].encode())
+            to = place_of(module, call)
             body += arguments(call) + b"\x10" + u(to) + b"\x1a" * len(module.type_of(to)[1])
         if action["type"] == "get":
-            to = module.exported(action["field"].encode(), 3)
+            to = place_of(module, action, 3)
             results = [module.globals[to][0]]
             body += b"\x23" + u(to)
         else:
-            to = module.exported(action["field"].encode())
-            results = module.type_of(to)[1]
+            to = place_of(module, action)
+            results = [*module.type_of(to)[1]]
             body += arguments(action) + b"\x10" + u(to)
         module.add_row(b"row", results, body + b"\x0b")
         return module.write()
 
 
-def with_imports_built_in(data):
+def place_of(module: Module, action: Command, kind: int = 0) -> int:
+    """Where what an action names is in the module, which has it."""
+    found = module.exported(action["field"].encode(), kind)
+    assert found is not None, action
+    return found
+
+
+def with_imports_built_in(data: bytes) -> Optional[bytes]:
     """The bytes of a module that may be invalid, where its imports are all that is outside the profile, else None."""
     try:
         instance = Instance(data)
@@ -111,7 +128,7 @@ def with_imports_built_in(data):
     return instance.data if instance.changed == "imports built in" and not instance.why else None
 
 
-def arguments(call):
+def arguments(call: Command) -> bytes:
     out = b""
     for arg in call["args"]:
         bits = 32 if arg["type"] == "i32" else 64
@@ -121,12 +138,13 @@ def arguments(call):
 
 
 class Suite:
-    def __init__(self, program, keep):
+    def __init__(self, program: str, keep: Optional[pathlib.Path]) -> None:
         self.program, self.keep, self.judge = program, keep, shutil.which("wasm-validate")
-        self.counts, self.differences = collections.Counter(), []
+        self.counts: Counter[Tuple[str, str]] = collections.Counter()
+        self.differences: List[str] = []
         self.folder = tempfile.TemporaryDirectory()
 
-    def tell(self, words, data):
+    def tell(self, words: Sequence[str], data: bytes) -> str:
         """The line that the program prints, behind its status where that isn't the one which belongs to the line."""
         path = pathlib.Path(self.folder.name) / "module.wasm"
         path.write_bytes(data)
@@ -137,8 +155,11 @@ class Suite:
             line = f"status {done.returncode}, {line}"
         return line
 
-    def file(self, path):
-        self.modules, self.last, self.shared, self.local = {}, None, {}, collections.Counter()
+    def file(self, path: pathlib.Path) -> None:
+        self.modules: Dict[str, Instance] = {}
+        self.shared: Dict[bytes, Instance] = {}
+        self.last: Optional[Instance] = None
+        self.local: Counter[str] = collections.Counter()
         self.path, self.at = path, ""
         for command in json.loads(path.read_text())["commands"]:
             self.at = f"{path.stem}.wast:{command['line']}"
@@ -152,21 +173,21 @@ class Suite:
         agreed, differed, skipped = (self.local[k] for k in ("agreed", "DIFFERS", "skipped"))
         print(f"{path.stem:30} {agreed:6} agreed {differed:4} differed {skipped:6} skipped {self.local['outside']:5} outside anyway")
 
-    def differ(self, data, what):
+    def differ(self, data: bytes, what: str) -> str:
         self.differences.append(f"{self.at}: {what}")
         if self.keep:
             self.keep.mkdir(parents=True, exist_ok=True)
             (self.keep / f"{self.at.replace(':', '-')}.wasm").write_bytes(data)
         return "DIFFERS"
 
-    def command(self, command):
+    def command(self, command: Command) -> Optional[str]:
         kind = command["type"]
         if kind in ("assert_return", "assert_trap", "assert_exhaustion", "action"):
             return self.act(command)
         if kind == "alias":
             self.modules[command["name"]] = self.modules[command["of"]]
         elif kind == "register":
-            self.shared[name(command["as"].encode())] = self.modules[command["name"]] if "name" in command else self.last
+            self.shared[name(command["as"].encode())] = self.modules[command["name"]] if "name" in command else self.the_last()
         elif command.get("module_type") == "text":
             raise Skip("the text format")
         else:
@@ -174,10 +195,15 @@ class Suite:
             for registered, instance in self.shared.items():
                 if registered in data:
                     instance.lost = instance.lost or "another module, which shares what it has"
-            return getattr(self, kind)(command, data)
+            outcome: Optional[str] = getattr(self, kind)(command, data)
+            return outcome
         return None
 
-    def module(self, command, data):
+    def the_last(self) -> Instance:
+        assert self.last
+        return self.last
+
+    def module(self, command: Command, data: bytes) -> str:
         self.last = instance = Instance(data)
         if "name" in command:
             self.modules[command["name"]] = instance
@@ -203,7 +229,7 @@ class Suite:
         instance.why = "its module is refused"
         return self.differ(instance.data, f"a valid module{more} is told `{told}`")
 
-    def refused(self, command, data):
+    def refused(self, command: Command, data: bytes) -> Optional[str]:
         if command.get("text") == "invalid result arity":
             raise Skip("several results, which the profile has")
         told = self.tell(["check"], data)
@@ -221,10 +247,10 @@ class Suite:
 
     assert_invalid = assert_malformed = refused
 
-    def with_integers(self, data, otherwise, integers):
+    def with_integers(self, data: bytes, otherwise: Optional[str], integers: Sequence[int]) -> Optional[str]:
         """Puts integers in the place of the module's floats, and compares with what wasm-validate says of that module."""
-        outcome = otherwise
-        for integer in integers if self.judge else []:
+        outcome, judge = otherwise, self.judge
+        for integer in integers if judge else []:
             try:
                 changed = without_floats(data, integer)
             except (Outside, ValueError, IndexError):
@@ -233,7 +259,7 @@ class Suite:
             if told.startswith("decode") and not told.startswith("decode 12"):
                 continue
             path = pathlib.Path(self.folder.name) / "module.wasm"
-            is_valid = subprocess.run([self.judge, str(path)], capture_output=True).returncode == 0
+            is_valid = subprocess.run([str(judge), str(path)], capture_output=True).returncode == 0
             if is_valid and told.startswith("decode 12"):
                 return otherwise
             if is_valid != (told == "accepted"):
@@ -242,13 +268,13 @@ class Suite:
                 outcome = "agreed, with integers for floats"
         return outcome
 
-    def assert_unlinkable(self, command, data):
+    def assert_unlinkable(self, command: Command, data: bytes) -> str:
         told = self.tell(["check"], data)
         if told.startswith(("link", "decode 11")):
             return "agreed" if told.startswith("link") else OUTSIDE
         return self.differ(data, f"an unlinkable module is told `{told}`")
 
-    def assert_uninstantiable(self, command, data):
+    def assert_uninstantiable(self, command: Command, data: bytes) -> str:
         instance = Instance(data)
         if instance.why:
             raise Skip(instance.why)
@@ -259,7 +285,7 @@ class Suite:
             return f"agreed, {instance.changed}" if instance.changed else "agreed"
         return self.differ(module.write(), f"a module that has no instance is told `{told}`")
 
-    def act(self, command):
+    def act(self, command: Command) -> str:
         action = command["action"]
         instance = self.modules.get(action["module"]) if "module" in action else self.last
         if instance is None:
@@ -268,8 +294,9 @@ class Suite:
             raise Skip(f"its module: {instance.why}")
         return self.run(instance, action, command)
 
-    def run(self, instance, action, command):
+    def run(self, instance: Instance, action: Command, command: Command) -> str:
         module, field = instance.module, action["field"].encode()
+        assert module
         is_get = action["type"] == "get"
         to = module.exported(field, 3 if is_get else 0)
         if to is None:
@@ -299,7 +326,7 @@ class Suite:
             if writes:
                 instance.calls.append(action)
         elif kind == "assert_trap":
-            code = TRAPS.get(command.get("text"))
+            code = TRAPS.get(command.get("text", ""))
             is_right = told.startswith(f"trap {code} " if code else "trap ")
             instance.trapped |= writes
         else:
@@ -315,28 +342,28 @@ class Suite:
         return ", ".join(["agreed", *(note for note, is_so in notes.items() if is_so)])
 
 
-def is_fault(told, text):
+def is_fault(told: str, text: str) -> bool:
     """Whether the program's fault is one that says what the suite says."""
     words = next((answers for begin, answers in FAULTS if text.startswith(begin)), "").split(" ")
     return told.split(" ")[:2] in [words[at:at + 2] for at in range(0, len(words), 2)]
 
 
-def is_deep(action):
+def is_deep(action: Command) -> bool:
     """Whether a call may nest deeper than the depth given. The suite's recursions are as deep as their argument."""
     return any(int(value["value"]) > int(DEPTH) for value in action.get("args", []))
 
 
-def can_grow_past(module):
+def can_grow_past(module: Module) -> bool:
     return any(most is None or most > 64 for _, most in module.memories)
 
 
-def signed(value):
+def signed(value: Mapping[str, str]) -> int:
     bits, number = (32 if value["type"] == "i32" else 64), int(value["value"])
     return number - (1 << bits) if number >> (bits - 1) else number
 
 
-def main():
-    parser = argparse.ArgumentParser(description=__doc__.split("\n")[0])
+def main() -> int:
+    parser = argparse.ArgumentParser(description=(__doc__ or "").split("\n")[0])
     parser.add_argument("program")
     parser.add_argument("folders", nargs="+", type=pathlib.Path)
     parser.add_argument("--keep", type=pathlib.Path)
@@ -351,7 +378,7 @@ def main():
     print()
     for line in suite.differences:
         print(line)
-    total = collections.Counter()
+    total: Counter[str] = collections.Counter()
     for (_, outcome), n in suite.counts.items():
         total[outcome.split(":")[0].split(",")[0]] += n
     print(f"{sum(total.values())} commands: {total['agreed']} agreed, {total['DIFFERS']} differed, "

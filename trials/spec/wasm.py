@@ -5,6 +5,11 @@ place of floats.
 It is written from the standard's binary grammar, and knows nothing of the program under test. Bodies stay the bytes
 that they were, since no change here moves an index.
 """
+
+from __future__ import annotations
+
+from typing import Any, Callable, Dict, Iterable, Iterator, List, Mapping, Optional, Sequence, Set, Tuple, TypeVar
+
 FLOAT, LATER, LINKED = "floats", "a later version of the standard", "imports of another module"
 I32, I64, F32, F64, V128, FUNCREF, EXTERNREF = 0x7F, 0x7E, 0x7D, 0x7C, 0x7B, 0x70, 0x6F
 # Value types that are not in the profile, and why.
@@ -12,24 +17,32 @@ FOREIGN = {F32: FLOAT, F64: FLOAT, V128: LATER, FUNCREF: LATER, EXTERNREF: LATER
 FUNCTION, TABLE, MEMORY, GLOBAL = range(4)
 
 
+Item = TypeVar("Item")
+Said = TypeVar("Said")
+Limits = Tuple[int, Optional[int]]
+FunctionType = Tuple[Sequence[int], Sequence[int]]
+Locals = List[Tuple[int, int]]
+More = Any  # what stands behind an opcode, by the opcode: a number, numbers, or None
+
+
 class Outside(Exception):
     """The module has a part, told by the text, that this reader doesn't know or can't take out."""
 
 
 class Reader:
-    def __init__(self, data, at=0, end=None):
+    def __init__(self, data: bytes, at: int = 0, end: Optional[int] = None) -> None:
         self.data, self.at, self.end = data, at, len(data) if end is None else end
 
-    def byte(self):
+    def byte(self) -> int:
         return self.take(1)[0]
 
-    def take(self, n):
+    def take(self, n: int) -> bytes:
         if self.at + n > self.end:
             raise ValueError("the bytes end")
         self.at += n
         return self.data[self.at - n:self.at]
 
-    def leb(self):
+    def leb(self) -> Tuple[int, int]:
         """The number without a sign, and the weight of its last byte's sign."""
         value = shift = 0
         while True:
@@ -39,59 +52,60 @@ class Reader:
             if b < 128:
                 return value, (1 << shift if b & 64 else 0)
 
-    def u(self):
+    def u(self) -> int:
         return self.leb()[0]
 
-    def s(self):
+    def s(self) -> int:
         value, sign = self.leb()
         return value - sign
 
-    def vec(self, item):
+    def vec(self, item: Callable[[], Item]) -> List[Item]:
         return [item() for _ in range(self.u())]
 
-    def name(self):
+    def name(self) -> bytes:
         return self.take(self.u())
 
 
-def u(n):
+def u(n: int) -> bytes:
     return bytes([n]) if n < 128 else bytes([n & 127 | 128]) + u(n >> 7)
 
 
-def s(n):
+def s(n: int) -> bytes:
     return bytes([n & 127]) if -64 <= n < 64 else bytes([n & 127 | 128]) + s(n >> 7)
 
 
-def vec(items):
+def vec(items: Sequence[bytes]) -> bytes:
     return u(len(items)) + b"".join(items)
 
 
-def name(text):
+def name(text: bytes) -> bytes:
     return u(len(text)) + text
 
 
-def limits(r):
+def limits(r: Reader) -> Limits:
     flag = r.byte()
     if flag > 1:
         raise Outside(LATER)
     return (r.u(), r.u() if flag else None)
 
 
-def write_limits(at_least, at_most):
+def write_limits(at_least: int, at_most: Optional[int]) -> bytes:
     return b"\0" + u(at_least) if at_most is None else b"\1" + u(at_least) + u(at_most)
 
 
-def value_type(r):
+def value_type(r: Reader) -> int:
     t = r.byte()
     if t not in (I32, I64, *FOREIGN):
         raise Outside(LATER)
     return t
 
 
-def operations(body):
+def operations(body: bytes) -> Iterator[Tuple[int, More, bytes]]:
     """(opcode, immediates, bytes) of each operation of a body without its locals."""
     r = Reader(body)
     while r.at < r.end:
-        begin, op, more = r.at, r.byte(), None
+        begin, op = r.at, r.byte()
+        more: More = None
         if op in (2, 3, 4, 0x41, 0x42):
             more = r.s()
         elif op in (0x0C, 0x0D, 0x10, 0x20, 0x21, 0x22, 0x23, 0x24, 0x25, 0x26, 0xD2):
@@ -115,19 +129,19 @@ def operations(body):
         yield op, more, body[begin:r.at]
 
 
-def is_float(op, more):
+def is_float(op: int, more: More) -> bool:
     return op in (0x2A, 0x2B, 0x38, 0x39, 0x43, 0x44) or 0x5B <= op <= 0x66 or 0x8B <= op <= 0xA6 \
         or 0xA8 <= op <= 0xAB or 0xAE <= op <= 0xBF or op == 0xFC and more < 8
 
 
-def is_write(op, more):
+def is_write(op: int, more: More) -> bool:
     return op in (0x24, 0x26, 0x40) or 0x36 <= op <= 0x3E or op == 0xFC and more >= 8
 
 
 # What the suite's host offers under the name "spectest", and wasm-opt's random modules ask of "fuzzing-support": functions that do
 # nothing, globals with their initializers, a table and a memory with their limits.
 HOSTS = (b"spectest", b"fuzzing-support")
-SPECTEST = {
+SPECTEST: Dict[Tuple[int, bytes], Any] = {
     (FUNCTION, b"print"): None, (FUNCTION, b"print_i32"): None, (FUNCTION, b"print_i64"): None, (FUNCTION, b"print_f32"): None,
     (FUNCTION, b"print_f64"): None, (FUNCTION, b"print_i32_f32"): None, (FUNCTION, b"print_f64_f64"): None,
     (GLOBAL, b"global_i32"): b"\x41" + s(666) + b"\x0b", (GLOBAL, b"global_i64"): b"\x42" + s(666) + b"\x0b",
@@ -141,11 +155,21 @@ class Module:
     """The parts of a module. Imports of such a host stand in front of what it defines, as functions, globals, a table and
     a memory of its own. Element segments that only later instructions could use are left out."""
 
-    def __init__(self, data):
-        self.types, self.functions, self.tables, self.memories, self.globals = [], [], [], [], []
-        self.exports, self.start, self.elements, self.data, self.baked, self.dead = [], None, [], [], set(), {}
+    def __init__(self, data: bytes) -> None:
+        self.types: List[FunctionType] = []
+        self.functions: List[Tuple[int, Locals, bytes]] = []
+        self.tables: List[Tuple[int, int, Optional[int]]] = []
+        self.memories: List[Limits] = []
+        self.globals: List[Tuple[int, int, bytes]] = []
+        self.exports: List[Tuple[bytes, int, int]] = []
+        self.start: Optional[int] = None
+        self.elements: List[Tuple[bytes, List[int]]] = []
+        self.data: List[Tuple[bytes, bytes]] = []
+        self.baked: Set[str] = set()
+        self.dead: Dict[int, str] = {}
         self.dropped = False
-        defined, bodies = [], []
+        defined: List[int] = []
+        bodies: List[Tuple[Locals, bytes]] = []
         r = Reader(data, 8)
         while r.at < r.end:
             number, size = r.byte(), r.u()
@@ -178,12 +202,12 @@ class Module:
             self.dropped |= number == 12
         self.functions += [(t, *b) for t, b in zip(defined, bodies)]
 
-    def read_type(self, r):
+    def read_type(self, r: Reader) -> FunctionType:
         if r.byte() != 0x60:
             raise Outside(LATER)
         return r.vec(lambda: value_type(r)), r.vec(lambda: value_type(r))
 
-    def read_import(self, r):
+    def read_import(self, r: Reader) -> None:
         module, field, kind = r.name(), r.name(), r.byte()
         if module not in HOSTS or (kind, field) not in SPECTEST:
             raise Outside(LINKED)
@@ -200,7 +224,7 @@ class Module:
         else:
             self.globals.append((value_type(r), r.byte(), made))
 
-    def constant(self, r):
+    def constant(self, r: Reader) -> bytes:
         """A constant expression, with imported globals as what they are."""
         begin = r.at
         for op, more, code in operations(r.data[r.at:r.end]):
@@ -215,7 +239,7 @@ class Module:
                 raise Outside(LATER)
         return r.data[begin:r.at]
 
-    def read_element(self, r):
+    def read_element(self, r: Reader) -> Optional[Tuple[bytes, List[int]]]:
         """(offset, functions) of a segment for table 0; None of one that is passive or for another table."""
         flag = r.u()
         self.dropped |= flag > 0
@@ -226,15 +250,15 @@ class Module:
         if flag & 3:
             r.byte()
         if flag & 4:
-            items = [list(operations(c)) for c in r.vec(lambda: self.constant(r))]
-            if any(i[0][0] != 0xD2 for i in items) and offset and not table:
+            starts = [next(operations(c)) for c in r.vec(lambda: self.constant(r))]
+            if any(op != 0xD2 for op, _, _ in starts) and offset and not table:
                 raise Outside(LATER)
-            items = [i[0][1] for i in items]
+            items: List[int] = [more for _, more, _ in starts]
         else:
             items = r.vec(r.u)
         return None if offset is None or table else (offset, items)
 
-    def read_data(self, r):
+    def read_data(self, r: Reader) -> Optional[Tuple[bytes, bytes]]:
         flag = r.u()
         self.dropped |= flag > 0
         if flag > 2 or flag == 2 and r.u():
@@ -243,20 +267,20 @@ class Module:
         contents = r.name()
         return None if offset is None else (offset, contents)
 
-    def read_body(self, r):
+    def read_body(self, r: Reader) -> Tuple[Locals, bytes]:
         size = r.u()
         part = Reader(r.data, r.at, r.at + size)
         r.take(size)
         locals_ = part.vec(lambda: (part.u(), value_type(part)))
         return locals_, r.data[part.at:part.end]
 
-    def type_of(self, place):
+    def type_of(self, place: int) -> FunctionType:
         return self.types[self.functions[place][0]]
 
-    def foreign(self, types):
+    def foreign(self, types: Iterable[int]) -> Optional[str]:
         return next((FOREIGN[t] for t in types if t in FOREIGN), None)
 
-    def why_cut(self, place):
+    def why_cut(self, place: int) -> Optional[str]:
         """Why a function can't stay as it is, or None."""
         number, locals_, body = self.functions[place]
         of_types = [self.foreign([*a, *b]) for a, b in self.types]
@@ -288,13 +312,13 @@ class Module:
                 return why
         return None
 
-    def cut(self):
+    def cut(self) -> bool:
         """Takes out floats, what later versions brought and functions above a named limit (docs/LIMITS.md). Such functions keep
         their places and trap; `dead` says of which functions the runs are no longer those of the module, and why. True
         where something was cut."""
         before = self.write()
         why = {k: w for k in range(len(self.functions)) if (w := self.why_cut(k))}
-        types = {(tuple(a), tuple(b)) for a, b in self.types}
+        types: Set[Tuple[Tuple[int, ...], Tuple[int, ...]]] = {(tuple(a), tuple(b)) for a, b in self.types}
         for place, (a, b) in enumerate(self.types):
             if self.foreign([*a, *b]):
                 # A type of its own, as before: twelve parameters tell it from the others.
@@ -313,7 +337,7 @@ class Module:
         self.dead = self.reaching(why)
         return self.dropped or self.write() != before
 
-    def reaching(self, wanted):
+    def reaching(self, wanted: Mapping[int, Said]) -> Dict[int, Said]:
         """Those functions from which one of `wanted`, a map, can be reached by calls, with what the map says of it."""
         found = dict(wanted)
         in_table = [f for _, items in self.elements for f in items if f < len(self.functions)]
@@ -330,24 +354,24 @@ class Module:
                         grown = True
         return found
 
-    def which(self, test):
+    def which(self, test: Callable[[int, More], bool]) -> Dict[int, bool]:
         """The functions that run an operation of which `test` is true, or may call one that does."""
         return self.reaching({k: True for k, (_, _, body) in enumerate(self.functions)
                               if any(test(op, more) for op, more, _ in operations(body))})
 
-    def exported(self, field, kind=FUNCTION):
+    def exported(self, field: bytes, kind: int = FUNCTION) -> Optional[int]:
         return next((to for n, k, to in self.exports if n == field and k == kind), None)
 
-    def add_row(self, field, results, body):
+    def add_row(self, field: bytes, results: Sequence[int], body: bytes) -> None:
         """One more function without parameters, exported under this name."""
-        wanted = ([], results)
+        wanted: FunctionType = ([], results)
         if not any(same(t, wanted) for t in self.types):
             self.types.append(wanted)
         self.functions.append((next(k for k, t in enumerate(self.types) if same(t, wanted)), [], body))
         self.exports.append((field, FUNCTION, len(self.functions) - 1))
 
-    def write(self):
-        def section(number, items):
+    def write(self) -> bytes:
+        def section(number: int, items: Sequence[bytes]) -> bytes:
             contents = vec(items)
             return bytes([number]) + u(len(contents)) + contents if items else b""
 
@@ -356,7 +380,7 @@ class Module:
         return (b"\0asm\1\0\0\0"
                 + section(1, [b"\x60" + vec([bytes([t]) for t in a]) + vec([bytes([t]) for t in b]) for a, b in self.types])
                 + section(3, [u(f[0]) for f in self.functions])
-                + section(4, [bytes([t]) + write_limits(*most) for t, *most in self.tables])
+                + section(4, [bytes([t]) + write_limits(least, most) for t, least, most in self.tables])
                 + section(5, [write_limits(*m) for m in self.memories])
                 + section(6, [bytes([t, m]) + value for t, m, value in self.globals])
                 + section(7, [name(n) + bytes([k]) + u(to) for n, k, to in self.exports])
@@ -366,21 +390,21 @@ class Module:
                 + section(11, [b"\0" + offset + name(contents) for offset, contents in self.data]))
 
 
-def same(one, other):
+def same(one: FunctionType, other: FunctionType) -> bool:
     return [list(part) for part in one] == [list(part) for part in other]
 
 
-def without_floats(data, integer):
+def without_floats(data: bytes, integer: int) -> bytes:
     """The module with one integer type in the place of both float types, and for each of their instructions one that has
     its type then. A valid module stays valid, and one that is invalid by more than a mix of these types stays invalid."""
     module = Module(data)
     const = bytes([0x41 if integer == I32 else 0x42, 0])
     letter = {F32: integer, F64: integer}
 
-    def types(list_):
+    def types(list_: Iterable[int]) -> List[int]:
         return [letter.get(t, t) for t in list_]
 
-    def instruction(op, more, code):
+    def instruction(op: int, more: More, code: bytes) -> bytes:
         wide = integer == I64
         if op in (0x43, 0x44):
             return const

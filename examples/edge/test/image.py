@@ -50,17 +50,18 @@ def copied(root, context, words):
             shutil.copy(at, to / at.name if target.endswith("/") and to.mkdir(parents=True, exist_ok=True) is None else to)
 
 
-def build(kept, image):
+def build(kept, built, image):
     """Follows the Containerfile. Returns what it says of the image: USER and ENTRYPOINT."""
     stages, root, said = {}, image, {}
     for line in (HERE.parent / "Containerfile").read_text().splitlines():
         word, _, rest = line.partition(" ")
         if word == "FROM":
             base, _, name = rest.partition(" AS ")
-            root = kept if base != "scratch" else image
+            root = built if base != "scratch" else image
             stages[name] = root
             if base != "scratch":
-                debian(root)
+                debian(kept)
+                run("cp", "-a", kept, root)
         elif word == "RUN":
             run("chroot", root, "/bin/sh", "-e", "-c", rest)
         elif word == "COPY":
@@ -87,9 +88,9 @@ def inside(root, guests, user, entry):
     run("mount", "--bind", root, root)
     run("mount", "--bind", guests, f"{root}/tenants")
     run("mount", "-o", "remount,bind,ro", root)
-    words = ["setpriv", "--no-new-privs", "--bounding-set=-all,+sys_chroot,+setuid,+setgid", "chroot", f"--userspec={user}", "--groups=", root, *json.loads(entry)]
+    words = ["setpriv", "--no-new-privs", "--bounding-set=-all,+sys_chroot,+setuid,+setgid", shutil.which("chroot"), f"--userspec={user}", "--groups=", root, *json.loads(entry)]
     server = subprocess.Popen(words, stdout=subprocess.PIPE, text=True, env={})
-    for _ in range(100):
+    while server.poll() is None:
         try:
             assert ask("/-/health") == (200, b"ok\n")
             break
@@ -111,7 +112,7 @@ def main():
         kept, image = pathlib.Path(sys.argv[2] if len(sys.argv) > 2 else f"{room}/debian"), pathlib.Path(room) / "image"
         image.mkdir()
         os.chmod(room, 0o755)
-        said = build(kept, image)
+        said = build(kept, pathlib.Path(room) / "build", image)
         files = sorted(str(it.relative_to(image)) for it in image.rglob("*"))
         run("unshare", "--net", "--mount", "--pid", "--fork", "--mount-proc", sys.executable, __file__, "inside", image, sys.argv[1], said["USER"], said["ENTRYPOINT"])
         print(f"the image has {', '.join(files)}, {(image / 'edge').stat().st_size} bytes, and answers")

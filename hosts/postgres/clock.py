@@ -1,5 +1,5 @@
-"""Whether timeouts and cancels hold within 10 ms: clock.py SOCKET, by test.sh. It speaks PostgreSQL's protocol, so that no client's start counts. The machine may
-be busy, so one of forty tries has to, and all have a wide bound. Ends with 1 if one is late."""
+"""Whether timeouts and cancels hold within 10 ms: clock.py SOCKET, by test.sh. It speaks PostgreSQL's protocol, so that no client's start counts. The
+machine may be busy, so one of forty tries has to, and all have a wide bound. Ends with 1 if one is late."""
 import socket
 import struct
 import sys

@@ -1,7 +1,8 @@
 """Makes the image of ../Containerfile where there is no container's tool, and asks it: image.py GUESTS [FOLDER]
 
-FROM debian:12-slim is a root of Debian 12 by mmdebstrap, which is kept in FOLDER; RUN is a command in it; FROM scratch is an empty folder. The ENTRYPOINT then runs
-as its USER on a root that cannot be written, in namespaces of its own, with GUESTS as its tenants. It takes root, mmdebstrap, a mirror of Debian and a minute.
+FROM debian:12-slim is a root of Debian 12 by mmdebstrap, which is kept in FOLDER; RUN is a command in a copy of it; FROM scratch is an empty folder. The
+ENTRYPOINT then runs as its USER on a root that cannot be written, in namespaces of its own, with GUESTS as its tenants. It takes root, mmdebstrap, a mirror of
+Debian and a minute.
 """
 
 import fcntl
@@ -47,7 +48,9 @@ def copied(root, context, words):
         if at.is_dir():
             shutil.copytree(at, to, symlinks=True, dirs_exist_ok=True)
         else:
-            shutil.copy(at, to / at.name if target.endswith("/") and to.mkdir(parents=True, exist_ok=True) is None else to)
+            if target.endswith("/"):
+                to.mkdir(parents=True, exist_ok=True)
+            shutil.copy(at, to)
 
 
 def build(kept, built, image):
@@ -88,7 +91,8 @@ def inside(root, guests, user, entry):
     run("mount", "--bind", root, root)
     run("mount", "--bind", guests, f"{root}/tenants")
     run("mount", "-o", "remount,bind,ro", root)
-    words = ["setpriv", "--no-new-privs", "--bounding-set=-all,+sys_chroot,+setuid,+setgid", shutil.which("chroot"), f"--userspec={user}", "--groups=", root, *json.loads(entry)]
+    words = ["setpriv", "--no-new-privs", "--bounding-set=-all,+sys_chroot,+setuid,+setgid"]
+    words += [shutil.which("chroot"), f"--userspec={user}", "--groups=", root, *json.loads(entry)]
     server = subprocess.Popen(words, stdout=subprocess.PIPE, text=True, env={})
     while server.poll() is None:
         try:
@@ -114,7 +118,8 @@ def main():
         os.chmod(room, 0o755)
         said = build(kept, pathlib.Path(room) / "build", image)
         files = sorted(str(it.relative_to(image)) for it in image.rglob("*"))
-        run("unshare", "--net", "--mount", "--pid", "--fork", "--mount-proc", sys.executable, __file__, "inside", image, sys.argv[1], said["USER"], said["ENTRYPOINT"])
+        own = ("unshare", "--net", "--mount", "--pid", "--fork", "--mount-proc")
+        run(*own, sys.executable, __file__, "inside", image, sys.argv[1], said["USER"], said["ENTRYPOINT"])
         print(f"the image has {', '.join(files)}, {(image / 'edge').stat().st_size} bytes, and answers")
     return None
 

@@ -10,8 +10,8 @@
  *     SELECT plugin_work('rules', 0, body) FROM files;                -- uv_work on bytes, on fresh memory for each row
  *     SELECT plugin_fuel('rules');                                    -- the units used since it was loaded
  *
- * A guest that traps or exceeds a limit raises an SQL error that says why and where. Calls run in slices; sqlite3_interrupt and a progress handler end them
- * between two, and the plug-in keeps its state. */
+ * A guest that traps or exceeds a limit raises an SQL error that says why and where. Calls run in slices; sqlite3_interrupt ends them between two, and the
+ * plug-in keeps its state. */
 #include <sqlite3ext.h>
 SQLITE_EXTENSION_INIT1
 #include "../host.h"

@@ -125,8 +125,9 @@ def redis(where, folder):
         assert line, "the server has closed the connection"
         return line.split(b",")[0].split(b":")[0].strip().decode() if line[:1] == b"-" else "done"
     for path in modules(folder):
-        counts[command(b"wl.load", b"m", path.read_bytes(), b"10000000", b"20")] += 1
-        for op in OPS:
+        loaded = command(b"wl.load", b"m", path.read_bytes(), b"10000000", b"20")
+        counts[loaded] += 1
+        for op in OPS if loaded == "done" else ():
             counts[command(b"wl.call", b"m", b"%d" % op, b"x" * (op * 1000))] += 1
     print(f"redis: {len(modules(folder))} modules; answers: {dict(counts)}")
     return True

@@ -36,7 +36,7 @@ run() {
 }
 
 if [ "${1:-}" = install ]; then
-    mapfile -t missing < <(for name in "${all[@]}"; do lacks "$name"; done | sort -u)
+    mapfile -t missing < <({ for name in "${all[@]}"; do lacks "$name"; done; command -v tsc > /dev/null || echo node-typescript; } | sort -u)
     [ ${#missing[@]} = 0 ] || DEBIAN_FRONTEND=noninteractive apt-get install -y --no-install-recommends "${missing[@]}"
     exit
 fi

@@ -109,6 +109,10 @@ for how; do
         ASAN_OPTIONS=quarantine_size_mb=8 part "$out/addresses" "$out/guests" 10000 hostile
         part "$out/threads" "$out/guests" 10000 hostile
         soak "$out/plain" "${SOAK:-600}"
+        if [ "$(id -u)" != 0 ] || ! has mmdebstrap; then left_out 'the image: it takes root and mmdebstrap'
+        elif said=$(python3 "$here/test/image.py" "$out/guests" 2> "$out/image"); then say "image: $said"
+        else say "FAILED: test/image.py: $(tail -n 3 "$out/image")"; failed=1
+        fi
         if [ "$(id -u)" != 0 ]; then left_out 'bench/proxies.py: it makes namespaces as root'
         else python3 "$here/bench/proxies.py" "$out/plain" "$out/load" "$out/guests" || { say 'FAILED: bench/proxies.py'; failed=1; }
         fi ;;

@@ -189,10 +189,10 @@ static int goes_on(task *k) { return !k->over && k->s == WASMLOOP_OK && !atomic_
 static int slice(task *k)
 {
     wasmloop_handle *of = &k->of->handle;
-    if (!k->call) return wasmloop_job_run_for(of, HOST_SLICE, &k->over);
-    if (k->begun) return wasmloop_call_run_for(of, HOST_SLICE, &k->over, &k->e);
+    if (!k->call) return wasmloop_job_run_for(of, HOST_JOB_SLICE, &k->over);
+    if (k->begun) return wasmloop_call_run_for(of, HOST_JOB_SLICE, &k->over, &k->e);
     k->begun = 1;
-    return wasmloop_call_for(of, k->at, k->args, k->n, &k->of->limits, HOST_SLICE, &k->over, &k->e);
+    return wasmloop_call_for(of, k->at, k->args, k->n, &k->of->limits, HOST_JOB_SLICE, &k->over, &k->e);
 }
 
 static void execute(napi_env env, void *at)

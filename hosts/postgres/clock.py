@@ -1,12 +1,12 @@
-"""Whether timeouts and cancels hold within 10 ms: clock.py SOCKET, by test.sh. It speaks PostgreSQL's protocol, so that no client's start counts. Each is tried
-nine times; the machine may be busy, so the least of them counts, and all have a wide bound. Ends with 1 if one is late."""
+"""Whether timeouts and cancels hold within 10 ms: clock.py SOCKET, by test.sh. It speaks PostgreSQL's protocol, so that no client's start counts. The
+machine may be busy, so one of forty tries has to, and all have a wide bound. Ends with 1 if one is late."""
 import socket
 import struct
 import sys
 import threading
 import time
 
-TRIES, LATE, MOST = 9, 10, 1000
+LEAST, TRIES, LATE, MOST = 9, 40, 10, 1000
 
 
 class Session:
@@ -70,11 +70,13 @@ def main():
     late = 0
     for name, act in tests.items():
         other.ask("BEGIN; LOCK TABLE wasmloop.module" if name == "lock_timeout" else "ROLLBACK")
-        took = [act() for _ in range(TRIES)]
+        took = [act()]
+        while None not in took and len(took) < (LEAST if min(took) <= LATE else TRIES):
+            took.append(act())
         other.ask("ROLLBACK")
         good = None not in took and min(took) <= LATE and max(took) <= MOST
         late += not good
-        told = f"least {min(took):.1f}, median {sorted(took)[TRIES // 2]:.1f}, most {max(took):.1f} ms late" if None not in took else str(took)
+        told = f"least {min(took):.1f}, median {sorted(took)[len(took) // 2]:.1f}, most {max(took):.1f} ms late" if None not in took else str(took)
         print(f"{name}: {told} {'ok' if good else 'FAILED'}")
     return int(late > 0)
 

@@ -333,7 +333,6 @@ Datum wasmloop_handler(PG_FUNCTION_ARGS)
     wasmloop_ended ended;
     bytea *block;
     int32_t length;
-    check_stack_depth();
     if (CALLED_AS_TRIGGER(fcinfo) || CALLED_AS_EVENT_TRIGGER(fcinfo)) FAIL(FEATURE_NOT_SUPPORTED, "no triggers");
     s = site_of(fcinfo->flinfo);
     if (s->set) InitMaterializedSRF(fcinfo, MAT_SRF_USE_EXPECTED_DESC);

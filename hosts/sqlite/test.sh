@@ -101,7 +101,7 @@ resident = int(next(l for l in open("/proc/self/status") if l.startswith("VmRSS"
 print(resident < 150000)
 P
 want "$(head -1 "$room/said")" "ok ['ok', 'ok', 'ok'] ok ok (42, 1)" "an interrupt between calls, and within one, ends the statement within 10 ms; the state is kept"
-want "$(sed -n 2p "$room/said")" "interrupted True (44,)" "a progress handler ends a call"
+want "$(sed -n 2p "$room/said")" "interrupted True (44,)" "a progress handler of each instruction ends a call"
 want "$(sed -n '3,5p' "$room/said" | tr '\n' ' ')" "(44,) (7, 7, 45) (8, 162) " "functions that are defined anew, beside those that are not"
 want "$(sed -n '6,$p' "$room/said")" "True" "four threads, 1,200 groups: no memory is left behind"
 end

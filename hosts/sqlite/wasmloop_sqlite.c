@@ -10,8 +10,8 @@
  *     SELECT plugin_work('rules', 0, body) FROM files;                -- uv_work on bytes, on fresh memory for each row
  *     SELECT plugin_fuel('rules');                                    -- the units used since it was loaded
  *
- * A guest that traps or exceeds a limit raises an SQL error that says why and where. Calls run in slices; sqlite3_interrupt and a progress handler end them
- * between two, and the plug-in keeps its state. */
+ * A guest that traps or exceeds a limit raises an SQL error that says why and where. Calls run in slices; sqlite3_interrupt ends them between two, and the
+ * plug-in keeps its state. */
 #include <sqlite3ext.h>
 SQLITE_EXTENSION_INIT1
 #include "../host.h"
@@ -355,7 +355,7 @@ static void plugin_work(sqlite3_context *c, int count, sqlite3_value **v)
     const uint8_t *bytes = sqlite3_value_blob(v[2]), *reply;
     uint32_t over = 0;
     int status = wasmloop_job_new(&p->module, &task, bytes, (size_t)sqlite3_value_bytes(v[2]), &job);
-    if (status == WASMLOOP_OK) do status = wasmloop_job_run_for(&job, HOST_SLICE, &over); while (status == WASMLOOP_OK && !over && !interrupted(c));
+    if (status == WASMLOOP_OK) do status = wasmloop_job_run_for(&job, HOST_JOB_SLICE, &over); while (status == WASMLOOP_OK && !over && !interrupted(c));
     wasmloop_about about;
     uint64_t length;
     char why[700];

@@ -754,7 +754,8 @@ def operators():
 def restarts():
     """Four clients lose no request while one server follows another on a socket, as systemd restarts it, three times: each tries once more."""
     asked, again, lost, over = [0], [], [], threading.Event()
-    with tempfile.TemporaryDirectory() as folder, socket.socket(socket.AF_UNIX, socket.SOCK_DGRAM) as told, socket.create_server(("127.0.0.1", 0), backlog=128) as listener:
+    with (tempfile.TemporaryDirectory() as folder, socket.socket(socket.AF_UNIX, socket.SOCK_DGRAM) as told,
+          socket.create_server(("127.0.0.1", 0), backlog=128) as listener):
         told.bind(f"{folder}/told")
         told.settimeout(120)
         server = Activated(listener, told, "-g", "1")

@@ -75,7 +75,15 @@ fn call_on(
         Ok(args) => args,
         Err(status) => return status,
     };
-    match call_function(alloc, resident, reply, function, args.as_slice(), given, told) {
+    match call_function(
+        alloc,
+        resident,
+        reply,
+        function,
+        args.as_slice(),
+        given,
+        told,
+    ) {
         Ok(()) => OK,
         Err(AllocError) => MEMORY,
     }

@@ -1,19 +1,18 @@
-use Rattle.resident.proofs.Words.{ap, arc_value, arith, KeptInstance, refl, subst, sym, ◌∙◌}
+use Rattle.resident.proofs.Words.{ap, arc_value, arith, KeptInstance, refl, ◌∙◌}
 use Rattle.std.proofs.Common.{length-take}
-use Rattle.resident.specs.Inner.Going.{IsResting}
 use Rattle.resident.specs.declared.kept.InstanceRoom.{InstanceRoom}
 use Rattle.resident.proofs.resident.Resident.call_over.Goals as goal
 
 pub call_lent-ended-requires-clause-names : goal.call_lent-ended-requires-clause-names
 call_lent-ended-requires-clause-names g c =
     let loaded = c.valid-valid.ensures.same ∙ c.deref.ensures ∙ ap (λ (k : InstanceRoom). arc_value k.linked) c.deref_mut.ensures.value
-        ∙ ap (λ (x : KeptInstance). x.loaded) c.self.view_is in
+    ∙ ap (λ (x : KeptInstance). x.loaded) c.self.view_is in
     rw loaded c.requires.names
 
 pub call_lent-ended-requires-clause-typed : goal.call_lent-ended-requires-clause-typed
 call_lent-ended-requires-clause-typed g c =
     let loaded = c.valid-valid.ensures.same ∙ c.deref.ensures ∙ ap (λ (k : InstanceRoom). arc_value k.linked) c.deref_mut.ensures.value
-        ∙ ap (λ (x : KeptInstance). x.loaded) c.self.view_is in
+    ∙ ap (λ (x : KeptInstance). x.loaded) c.self.view_is in
     rw loaded c.requires.typed
 
 pub call_lent-ended-requires-clause-room : goal.call_lent-ended-requires-clause-room

@@ -1,5 +1,5 @@
 -- What the host of a call with bytes answers, over a whole run, is what the host of a job does.
-use Rattle.wasmloop_c.proofs.Names.{ap, arith, List, None, Option, refl, subst, sym, Value, ℕ, [], ◌-◌, ◌∙◌, ◌∷◌, ◌≡◌, ◌≤◌}
+use Rattle.wasmloop_c.proofs.Names.{arith, List, Option, refl, subst, sym, Value, ℕ, [], ◌-◌, ◌∙◌, ◌∷◌, ◌≡◌, ◌≤◌}
 use Rattle.std.specs.Arc.{arc_value}
 use Rattle.syntax.specs.Loaded.{Loaded}
 use Rattle.syntax.specs.declared.types.Value.TheVariants.{I32}

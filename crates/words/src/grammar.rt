@@ -13,6 +13,9 @@ pub(crate) const TRACE: &str = "trace";
 /// The option that names a file with the input of a job.
 pub(crate) const INPUT: &str = "in";
 
+/// The option that has the input of a job as text.
+pub(crate) const TEXT: &str = "text";
+
 /// The option that names a file to write the reply to.
 pub(crate) const OUTPUT: &str = "out";
 
@@ -215,6 +218,16 @@ fn input_option<'a>(alloc: Global) -> Result<Arg<'a>, AllocError> {
         .conflicts_with("bytes")
 }
 
+fn text_option<'a>(alloc: Global) -> Result<Arg<'a>, AllocError> {
+    Arg::new(alloc, TEXT)
+        .long(TEXT)
+        .value_name("TEXT")
+        .allow_hyphen_values(true)
+        .help("Take the bytes of this text as the input instead of HEX")
+        .conflicts_with("bytes")?
+        .conflicts_with(INPUT)
+}
+
 fn output_option<'a>(alloc: Global) -> Arg<'a> {
     Arg::new(alloc, OUTPUT).long(OUTPUT).value_name("FILE").help(
         "Write the reply's bytes to this file; - is standard output",
@@ -240,6 +253,7 @@ fn work_words<'a>(alloc: Global) -> Result<Command<'a>, AllocError> {
             operation_word(alloc),
             bytes_word(alloc),
             input_option(alloc)?,
+            text_option(alloc)?,
             output_option(alloc),
             raw_option(alloc)?,
             fuel_option(alloc, "fuel", FUEL_HELP),

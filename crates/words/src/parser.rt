@@ -4,7 +4,7 @@ ghost use Rattle.std.specs.Prelude.{◌≤◌, IfOk, vec_len};
 ghost use Rattle.words.specs.Inputs.{spelled_count};
 
 use crate::command::{Command, Invocation, ServeCommand, WorkInput, WorkOutput, WorkRequest};
-use crate::grammar::{self, INPUT, OUTPUT, RAW, TRACE};
+use crate::grammar::{self, INPUT, OUTPUT, RAW, TEXT, TRACE};
 use crate::number::{decimal, small_decimal};
 use crate::refused::Refused;
 use clap::ArgMatches;
@@ -117,10 +117,23 @@ fn bytes(alloc: Global, word: &str) -> Result<Vec<u8>, Refused>
     }
 }
 
-/// Where the input of a job comes from: HEX or `--in`, at most one; empty without them.
+/// The bytes of a text.
+fn bytes_of(alloc: Global, text: &str) -> Result<Vec<u8>, Refused>
+    ensures { IfOk result (λ bytes. vec_len bytes ≤ MAX_BYTES) }
+{
+    if text.len() > MAX_BYTES {
+        return Err(Refused::TooManyBytes(text.len()));
+    }
+    Ok(Vec::from_slice(alloc, text.as_bytes())?)
+}
+
+/// Where the input of a job comes from: HEX, `--text` or `--in`, at most one; empty without them.
 fn input(alloc: Global, matches: &ArgMatches<'_>) -> Result<WorkInput, Refused>
     ensures { IfOk result (λ input. spelled_count input ≤ MAX_BYTES) }
 {
+    if let Some(text) = matches.get_str(TEXT) {
+        return Ok(WorkInput::Bytes(bytes_of(alloc, text)?));
+    }
     let name = match matches.get_str(INPUT) {
         Some("-") => STANDARD_INPUT,
         Some(name) => name,

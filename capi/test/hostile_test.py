@@ -171,7 +171,8 @@ def counts():
     """Numbers in a module that no host has checked: locals and labels that end far behind their function, in each of many."""
     many, far = 10_000, u(200_000)
     behind = ("x", bytes(600_000))
-    for what, body, reads in (("locals", far + bytes(3), wasm.Module), ("labels", b"\0\x0e" + far + bytes(3), lambda data: [it.ops for it in wasm.Module(data).bodies])):
+    labels = b"\0\x0e" + far + bytes(3)
+    for what, body, reads in (("locals", far + bytes(3), wasm.Module), ("labels", labels, lambda data: [it.ops for it in wasm.Module(data).bodies])):
         data = module([], {}, parts={FUNCTION: vec([u(0)] * many), CODE: vec([sized(body)] * many)}, custom=[behind])
         same(what, type(ended(what, lambda data=data, reads=reads: reads(data), wasm.Malformed)).__name__, "Malformed")
 

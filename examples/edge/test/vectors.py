@@ -160,7 +160,8 @@ def unescaped(text):
 
 
 def of_llhttp(folder):
-    block = re.compile(r'^#+ ([^\n]*)\n|^<!-- *meta=\{ *"type": *"request" *(?:, *"noScan": *true *)?\} *-->\n```http\n(.*?)```\n[^`]*```log\n(.*?)```', re.M | re.S)
+    block = re.compile(r'^#+ ([^\n]*)\n|^<!-- *meta=\{ *"type": *"request" *(?:, *"noScan": *true *)?\} *-->\n'
+                       r'```http\n(.*?)```\n[^`]*```log\n(.*?)```', re.M | re.S)
     for page in sorted(pathlib.Path(folder, "test/request").glob("*.md")):
         name = ""
         for title, text, told in block.findall(page.read_text("utf-8")):

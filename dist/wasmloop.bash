@@ -8,7 +8,7 @@ _wasmloop() {
     case ${COMP_WORDS[1]} in
     check) options='--help' ;;
     invoke) options='--fuel --depth --trace --help' ;;
-    work) options='--in --out --raw --fuel --depth --trace --help' ;;
+    work) options='--in --text --out --raw --fuel --depth --trace --help' ;;
     script) options='--help' ;;
     serve) options='--loops --workers --fuel --work-fuel --depth --trace --help' ;;
     help) mapfile -t COMPREPLY < <(compgen -W 'check invoke work script serve' -- "$word"); return ;;

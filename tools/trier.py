@@ -22,7 +22,7 @@ import edits as edits_of_tree  # noqa: E402
 import kept  # noqa: E402
 import verdicts  # noqa: E402
 from edits import PARTS, Copy, Edit, copies_of, text_of  # noqa: E402
-from verdicts import BAD, KEPT, MISSED, REFUSED, UNSURE, told_in, verdict  # noqa: E402
+from verdicts import BAD, KEPT, MISSED, REFUSED, UNSURE, told_by_lemmas, told_in, verdict  # noqa: E402
 
 # What a verdict is made by: what it was is kept as long as these are the same.
 MADE_BY = [__file__, edits_of_tree.__file__, verdicts.__file__]
@@ -148,6 +148,8 @@ class Trier:
             no_code = BAD, f"it is no code that the prover is asked of: {first[:200]}"
             return no_code if status == 1 else (UNSURE, f"its check ended with status {status}")
         told = told_in(said, edit.places)
+        if not edit.functions and not any(told.values()):
+            told = told_by_lemmas(said)
         if not edit.functions and not any(told.values()):
             return (MISSED, "the crate is still proved") if status == 0 else (UNSURE, "no function's line says what is not proved")
         return verdict(edit, told) or (UNSURE, "the lines of its functions say nothing of it")

@@ -38,6 +38,14 @@ def told_in(said: str, places: Sequence[Place] = ()) -> Dict[str, List[str]]:
     return told
 
 
+def told_by_lemmas(said: str) -> Dict[str, List[str]]:
+    """Where a changed definition leaves no goal of a function: the functions that are not proved, and the lemmas that no longer hold."""
+    errors = re.findall(r"(?:^|/)proofs/\S+\.antt:\d+:\d+: error: `([^`]+)`: (.*)", said, re.M)
+    lemmas = [lemma for lemma, why in errors if not GONE.search(why)]
+    open_ = re.findall(r"^fn \w+::(\S+): not proved", said, re.M)
+    return {name: list(dict.fromkeys(lemmas)) for name in open_} if lemmas else {}
+
+
 class Asked(Protocol):
     """What a verdict asks of an edit."""
 

@@ -22,7 +22,8 @@ gone; and it is one of those that `# refused:` names, where that line is there. 
 
 Tried alone is one that is not all in bodies of functions (a clause, a constant), or in a function of a cycle, and one whose copy says nothing of its
 function. A function whose line says only that one below isn't proved, as where both are wrong in one copy, is tried in the next copy, without
-that one. Without `# refused:`, one that changes no body may be refused anywhere in the crate.
+that one. Without `# refused:`, one that changes no body may be refused anywhere in the
+crate, or by a lemma that no longer holds.
 
 The libraries below are those that build.py has, and are built if they aren't; with --over-gate those that `rt ci` has left in out/rlib; with --over
 those of FOLDER, NAME.rlib each: a crate is tried once all below it and its own are there, until FOLDER has a file `over`. What was refused is

@@ -14,7 +14,7 @@ sys.path.insert(0, TOP)
 import build  # noqa: E402
 from edits import Alone, Edit, Place, place_in  # noqa: E402
 from trier import Kept, Trier  # noqa: E402
-from verdicts import BAD, ELSEWHERE, MISSED, REFUSED, told_in, verdict  # noqa: E402
+from verdicts import BAD, ELSEWHERE, MISSED, REFUSED, told_by_lemmas, told_in, verdict  # noqa: E402
 
 CODE = """use a::b;
 
@@ -44,6 +44,12 @@ note: src/h.rt:30:1: it is not proved that what the function ensures holds when 
 fn c::h: not proved
 fn c::i: no proof: it calls `c::h`, which is not proved
 """
+LEMMAS = """crates/c/proofs/Lemmas.antt:3:1: error: `one_more`: the two types first differ where one has `0`
+crates/c/proofs/Lemmas.antt:9:1: error: `two_more`: `gone` is not in scope
+crates/c/proofs/h/Answers.antt:4:5: error: 1 declaration that depends on `one_more`, which was not admitted, was not checked: returns
+fn c::f: proved
+fn c::h: not proved
+"""
 TOLD: Dict[str, List[str]] = {"f": [], "m::One::g": ["a", "fits"], "h": ["b", "c"]}
 
 
@@ -66,6 +72,8 @@ def known() -> int:
     wrong += [] if isinstance(away, Place) and away.name == "n::o::OneTwo::f" else [f"the method of a type of another file is {away!r}"]
     told = told_in(SAID, [Place("h", "src/h.rt", 8, 12)])
     wrong += [] if told == TOLD else [f"told is {told}"]
+    by_lemmas = told_by_lemmas(LEMMAS)
+    wrong += [] if by_lemmas == {"h": ["one_more"]} else [f"told by lemmas is {by_lemmas}"]
     verdicts = [
         (Said(["f"]), MISSED), (Said(["h"]), REFUSED), (Said(["i"]), None), (Said(["f", "h"]), REFUSED), (Said(["h"], {"h": ["a"]}), ELSEWHERE),
         (Said(["m::One::g"], {"m::One::g": ["fits"]}), REFUSED), (Said(["f"], {"f": ["fits"]}), MISSED), (Said([]), REFUSED),
@@ -73,7 +81,7 @@ def known() -> int:
     for edit, kind in verdicts:
         found = verdict(edit, TOLD)
         wrong += [] if (found and found[0]) == kind else [f"{edit.functions} by {edit.wanted}: {found}, not {kind}"]
-    print("\n".join(wrong) or f"{len(places) + 2 + len(verdicts)} known answers are found")
+    print("\n".join(wrong) or f"{len(places) + 3 + len(verdicts)} known answers are found")
     return 1 if wrong else 0
 
 

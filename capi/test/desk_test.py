@@ -428,7 +428,7 @@ def words_part():
         (f"lower {crc} {OUT}/l.wasm", 0, "lowered: "), (f"lower {OUT}/no.wasm {OUT}/l.wasm", 3, "cannot be rewritten"),
         ("cc lib.rs", 2, "cargo builds Rust"), (f"fuzz {tick}", 2, "exports no uv_work"), (f"profile {OUT}/t.record --callback 99", 2, "callbacks"),
         ("profile --help", 0, "Shows where the fuel"), ("lines --help", 0, "at byte N"), ("cover --help", 0, "Counts how often"),
-        ("record --help", 0, "Records the calls"), ("replay --help", 0, "Runs a record again"), ("freeze --help", 0, "in the resulting state"),
+        ("record --help", 0, "Records the calls"), ("replay --help", 0, "Runs a record again"), ("freeze --help", 0, "Writes a module that starts where"),
         (f"profile {crc} 0 --in {OUT}/request", 0, "uv_work(0) on 3 bytes: done, "), (f"profile {crc} 0 --budget 3", 1, "budget"),
         (f"profile {crc} 0 --in {OUT}/request --budget uv_work=320 --budget 321", 1, "uv_work: 321 units exceed the budget of 320"),
         (f"profile {crc} 0 --in {OUT}/request --budget uv_work=321 --budget 321", 0, "321 units"),

@@ -307,7 +307,7 @@ def pipes():
     env = {name: value for name, value in os.environ.items() if name != "PYTHONUNBUFFERED"}
     plain = OUT / "plain.wasm"
     plain.write_bytes(module([b""], {"uv_work": 0}, [b"\x60\1\x7f\1\x7f"], parts={CODE: vec([sized(b"\0" + i32(0) + END)])}))
-    found = ("profile", plain), ("cover", plain), ("profile", plain, "--folded", "-"), ("lower", plain, "-"), ("bind", plain.with_name("one.h"))
+    found = ("profile", plain), ("cover", plain), ("profile", plain, "--folded", "-"), ("lower", plain, "-"), ("bind", plain.with_name("one.h"), "-o", OUT)
     plain.with_name("one.h").write_text("int f(int a);\n")
     for words in ((), *((it, "--help") for it in tools.TOOLS), *found):
         reads, writes = os.pipe()

@@ -5,6 +5,8 @@ guest=$top/hosts/guest/rules.wasm
 # the folder of the library: dist/, or what WASMLOOP_FOLDER names; the builds look there too
 library=${WASMLOOP_FOLDER:-$top/dist}
 room=$(mktemp -d "${TMPDIR:-/tmp}/wasmloop-$name.XXXXXX")
+# (a test with a server sets its own, which ends that too)
+trap 'rm -rf "$room"' EXIT
 passed=0 failed=0
 # the processor that a bench has its server and its clients on
 last=$(($(nproc) - 1))

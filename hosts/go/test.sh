@@ -5,7 +5,6 @@ set -u
 cd "$(dirname "$0")" || exit 1
 name=go
 . ../lib.sh
-trap 'rm -rf "$room"' EXIT
 . ./env.sh
 if [ "${1:-}" = bench ]; then      # the least of five, on a processor of its own
     taskset -c "$last" go test -run NONE -bench . -benchtime 50000x -count 5 . | awk '/ns\/op/ { if (!($1 in best) || $3 < best[$1]) best[$1] = $3 } END { for (name in best) print name, best[name], "ns" }' | sort

@@ -5,7 +5,6 @@ set -u
 cd "$(dirname "$0")" || exit 1
 name=node
 . ../lib.sh
-trap 'rm -rf "$room"' EXIT
 ./build.sh || exit 1
 if [ "${1:-}" = bench ]; then node bench.js; exit; fi
 timeout 300 node --expose-gc test.js > "$room/said" 2>&1

@@ -5,7 +5,6 @@ set -u
 cd "$(dirname "$0")" || exit 1
 name=python
 . ../lib.sh
-trap 'rm -rf "$room"' EXIT
 export WASMLOOP_LIBRARY=$library/libwasmloop.so.0 PYTHONPATH=$top/capi/python PYTHONDONTWRITEBYTECODE=1
 timeout 200 python3 -X dev -W error test.py "$top/hosts/guest" "$top/examples" > "$room/said" 2>&1
 read -r good bad < <(tail -1 "$room/said")

@@ -5,7 +5,6 @@ set -u
 cd "$(dirname "$0")" || exit 1
 name=sqlite
 . ../lib.sh
-trap 'rm -rf "$room"' EXIT
 ./build.sh || exit 1
 if [ "${1:-}" = bench ]; then       # beside Lua (liblua5.4-dev), on a processor of its own
     # shellcheck disable=SC2046

@@ -9,6 +9,7 @@
 uint32_t wasmloop_rt_load(const uint8_t *, size_t, wasmloop_handle *, wasmloop_fault *);
 uint32_t wasmloop_rt_load_told(const uint8_t *, size_t, wasmloop_handle *, wasmloop_fault *, char *, size_t, uint64_t *);
 uint32_t wasmloop_rt_kind(wasmloop_handle *, uint32_t *);
+uint32_t wasmloop_rt_held(wasmloop_handle *, uint64_t *);
 uint32_t wasmloop_rt_loop(wasmloop_handle *, const wasmloop_limits *, wasmloop_handle *);
 uint32_t wasmloop_rt_drop(wasmloop_handle *);
 uint32_t wasmloop_rt_step(wasmloop_handle *, wasmloop_did *);
@@ -90,6 +91,12 @@ int wasmloop_kind(const wasmloop_handle *handle, uint32_t *kind) {
     if (!handle || !kind) return WASMLOOP_NULL;
     wasmloop_handle shared = *handle;
     return (int)wasmloop_rt_kind(&shared, kind);
+}
+
+int wasmloop_held(const wasmloop_handle *handle, uint64_t *bytes) {
+    if (!handle || !bytes) return WASMLOOP_NULL;
+    wasmloop_handle shared = *handle;
+    return (int)wasmloop_rt_held(&shared, bytes);
 }
 
 int wasmloop_loop(const wasmloop_handle *module, const wasmloop_limits *limits, wasmloop_handle *loop) {

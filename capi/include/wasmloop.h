@@ -128,6 +128,12 @@ enum { WASMLOOP_HOLDS_NOTHING, WASMLOOP_HOLDS_MODULE, WASMLOOP_HOLDS_JOB, WASMLO
 /* Writes what a handle holds to *kind. An instance is paused from the begin of a call to its end. */
 int wasmloop_kind(const wasmloop_handle *handle, uint32_t *kind);
 
+/* Writes how many bytes an object has to *bytes. Of a module its own bytes; of a job its input and its reply; of an instance or a loop the memory as
+ * large as it is now, 8 for each element of the table, 525,320 for the slots and callers of its calls, and an instance's last reply. What is left out:
+ * some KiB of small parts, what a module is decoded into, what the requests of a loop have, and the address space up to the memory's maximum size,
+ * for which the system gives nothing before the memory grows. KIND: a job is paused. */
+int wasmloop_held(const wasmloop_handle *handle, uint64_t *bytes);
+
 /* Releases the object of a handle of any kind. EMPTY: there was none. Afterwards you may free or reuse the struct. */
 int wasmloop_drop(wasmloop_handle *handle);
 
@@ -153,7 +159,7 @@ int wasmloop_job_run(wasmloop_handle *job);
 
 /* Runs a slice of a job, in any thread: at most `units` units of fuel, at least 1. Sets *over to 1 if the job is over: its outcome, reply
  * and fuel are those of wasmloop_job_run. Sets *over to 0 if the job is paused: it has fuel left, and may continue, in this thread or another.
- * A slice that pauses uses all its units, or fewer, at least one, once in_copy and out_set have copied more than 64 bytes per unit in it.
+ * A slice that pauses uses all its units, or fewer, at least one in 1,025, once in_copy and out_set have copied more than 64 bytes per unit.
  * A paused job may be dropped; wasmloop_job_about reports the fuel that it has used; wasmloop_stop, wasmloop_stop_places and
  * wasmloop_stop_told report where it stands; every other call on it returns KIND.
  * If an allocation of the first slice fails, the job is over with the outcome WASMLOOP_WORK_MEMORY; the last slice may allocate to shorten the
@@ -358,8 +364,8 @@ int wasmloop_step(wasmloop_handle *loop, wasmloop_did *did);
 
 /* Takes a slice of a step: its callback uses at most `units` units of fuel, at least 1. Sets *over to 1 if the step is over: *did, the emitted
  * values and the loop are those of wasmloop_step. Sets *over to 0 if its callback is paused: it has fuel left, and the next slice continues it,
- * in this thread or another. A slice that pauses uses all its units, or fewer, at least one, once calls of "uv" have copied more than 64 bytes per
- * unit in it. While a callback is paused you may drop the loop, or continue with wasmloop_step_for or wasmloop_turn_for; every other call on the
+ * in this thread or another. A slice that pauses uses all its units, or fewer, at least one in 1,025, once calls of "uv" have copied more than 64
+ * bytes per unit. While a callback is paused you may drop the loop, or continue with wasmloop_step_for or wasmloop_turn_for; every other call on the
  * loop returns KIND. Only the first slice of a step returns MEMORY; what the guest's queue_work copies is allocated in the slice that runs it, and a
  * failure there is -12 to the guest. RANGE: `units` is 0. If *over is 0, *did is not written. */
 int wasmloop_step_for(wasmloop_handle *loop, uint64_t units, uint32_t *over, wasmloop_did *did);

@@ -100,11 +100,14 @@ static void stateful(void) {
     IS(ended.used, 0);
     /* memory */
     IS(wasmloop_size(&it, &size), WASMLOOP_OK);
-    uint64_t first = size;
+    uint64_t first = size, held = 0, grown = 0;
+    IS(wasmloop_held(&it, &held), WASMLOOP_OK);
     IS(call(&it, "grow", 1, 1, 0), WASMLOOP_OK);
     IS(ended.result[0], first / 65536);
     IS(wasmloop_size(&it, &size), WASMLOOP_OK);
     IS(size, first + 65536);
+    IS(wasmloop_held(&it, &grown), WASMLOOP_OK);
+    IS(grown, held + 65536);
     memcpy(text, "abcdefgh", 8);
     IS(wasmloop_write(&it, (uint32_t)size - 8, text, 8), WASMLOOP_OK);
     memset(text, 0, 8);

@@ -1,5 +1,5 @@
 /* Texts: how a run ended, a status, why a module is rejected as it is loaded, where something stopped by the bytes that its module keeps. And what
- * a handle holds.
+ * a handle holds, and how many bytes.
  *
  * usage: texts_test FOLDER      (examples/ of this repository) */
 #include <string.h>
@@ -130,6 +130,66 @@ static uint32_t kind_of(const wasmloop_handle *handle) {
     return kind;
 }
 
+/* How many bytes an object has, or why it isn't told. */
+static uint64_t held(const wasmloop_handle *handle, int status) {
+    wasmloop_handle words = *handle;
+    uint64_t bytes = 7;
+    IS(wasmloop_held(handle, &bytes), status);
+    IS(memcmp(&words, handle, sizeof words), 0);
+    if (status != WASMLOOP_OK) IS(bytes, 7);
+    return bytes;
+}
+
+/* The slots and callers of an instance's calls. */
+enum { CALLS = 8 * (65536 + 1 + 128) };
+
+/* A module has its bytes, a job its input and its reply, and an instance or a loop its memory, its table and the room of its calls. */
+static void bytes_held(void) {
+    wasmloop_handle module = module_of("crc32.wasm"), it = WASMLOOP_HANDLE_INIT, job = WASMLOOP_HANDLE_INIT, loop = WASMLOOP_HANDLE_INIT;
+    wasmloop_handle none = WASMLOOP_HANDLE_INIT;
+    size_t length = read_file("crc32.wasm");
+    wasmloop_task task = { 1000000, 0, 64 };
+    wasmloop_about about;
+    wasmloop_ended ended;
+    wasmloop_did did;
+    uint32_t over = 7;
+    uint64_t size = 0;
+    IS(wasmloop_held(NULL, &size), WASMLOOP_NULL);
+    IS(wasmloop_held(&module, NULL), WASMLOOP_NULL);
+    held(&none, WASMLOOP_EMPTY);
+    IS(held(&module, WASMLOOP_OK), length);
+    IS(wasmloop_job_new(&module, &task, bytes, 1000, &job), WASMLOOP_OK);
+    IS(held(&job, WASMLOOP_OK), 1000);
+    IS(wasmloop_job_run_for(&job, 10, &over), WASMLOOP_OK);
+    IS(over, 0);
+    held(&job, WASMLOOP_KIND);
+    IS(wasmloop_job_run(&job), WASMLOOP_KIND);
+    IS(wasmloop_job_run_for(&job, 1000000, &over), WASMLOOP_OK);
+    IS(wasmloop_job_about(&job, &about), WASMLOOP_OK);
+    IS(about.reply > 0, 1);
+    IS(held(&job, WASMLOOP_OK), 1000 + about.reply);
+    IS(wasmloop_drop(&job), WASMLOOP_OK);
+    held(&job, WASMLOOP_EMPTY);
+    IS(wasmloop_instance(&module, &call_limits, &it, &ended), WASMLOOP_OK);
+    IS(wasmloop_size(&it, &size), WASMLOOP_OK);
+    uint64_t rest = held(&it, WASMLOOP_OK) - size;
+    IS(rest >= CALLS && rest < CALLS + 8 * 4096, 1);
+    IS(wasmloop_call_begin(&it, "uv_work", (uint64_t[]){ 0 }, 1, &call_limits), WASMLOOP_OK);
+    IS(held(&it, WASMLOOP_OK), size + rest);
+    IS(wasmloop_call_end(&it, &ended), WASMLOOP_OK);
+    IS(held(&it, WASMLOOP_OK), size + rest);
+    IS(wasmloop_drop(&module), WASMLOOP_OK);
+    module = module_of("endless.wasm");
+    IS(wasmloop_loop(&module, &usual, &loop), WASMLOOP_OK);
+    IS(wasmloop_size(&loop, &size), WASMLOOP_OK);
+    rest = held(&loop, WASMLOOP_OK) - size;
+    IS(rest >= CALLS && rest < CALLS + 8 * 4096 && rest % 8 == 0, 1);
+    while (over) IS(wasmloop_step_for(&loop, 10, &over, &did), WASMLOOP_OK);
+    IS(held(&loop, WASMLOOP_OK), size + rest);
+    wasmloop_drop(&it), wasmloop_drop(&loop), wasmloop_drop(&module);
+    held(&it, WASMLOOP_EMPTY);
+}
+
 /* What handles hold, and where their runs stopped, as a module that recurses without end goes on. */
 static void kinds(void) {
     wasmloop_handle module = module_of("endless.wasm"), it = WASMLOOP_HANDLE_INIT, job = WASMLOOP_HANDLE_INIT, loop = WASMLOOP_HANDLE_INIT;
@@ -188,5 +248,6 @@ int main(int argc, char **argv) {
     statuses();
     loads_all();
     kinds();
+    bytes_held();
     return all_hold();
 }

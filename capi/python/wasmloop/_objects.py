@@ -6,7 +6,7 @@ import ctypes as c
 import time
 from typing import Any, Callable, List, NamedTuple, Optional, Tuple, TypeVar, Union
 
-from ._calls import _call, _data, _expected, _export, _text, _whole
+from ._calls import _call, _data, _expected, _export, _found, _text, _whole
 from ._errors import Error, Late, OutOfRange, Stopped, _failed, _unfinished
 from ._abi import (DEPTH, EMPTY, KIND, MEMORY, NONE, NOT_RUN, OK, RANGE, SPENT, TRAP, WORK_DEPTH, WORK_DONE, WORK_SPENT, WORK_TRAP, About, Buffer, Place,
                    Site, _Ended, _Handle, _lib, _name_of, _Number, _Site)
@@ -27,6 +27,13 @@ class _Held:
         """Releases the object. Every later call raises Error with the status EMPTY."""
         self.handle.gone = self.handle.gone or f"the {self.handle.kind} is closed"
         _lib.wasmloop_drop(c.byref(self.handle))
+
+    @property
+    def held(self) -> int:
+        """How many bytes the object has, as wasmloop_held in wasmloop.h counts them."""
+        count = c.c_uint64()
+        _call("held", self.handle, c.byref(count))
+        return count.value
 
     def __enter__(self: _Kind) -> _Kind:
         return self
@@ -107,12 +114,8 @@ class _Inspected(_Runs):
 
     def value(self, name: str) -> int:
         """The signed value of the global exported as `name`."""
-        told, called = _Number(), _export(name)
-        status = _lib.wasmloop_global(c.byref(self.handle), called, c.byref(told))
-        if status == NONE:
-            raise Error(status, f"no global is exported as {name!r}")
-        if status != OK:
-            raise _failed(status, "global", self.handle)
+        told = _Number()
+        _found(_lib.wasmloop_global(c.byref(self.handle), _export(name), c.byref(told)), "global", name, self.handle)
         return _signed(told.number, 32 * told.value_type)
 
 

@@ -327,6 +327,7 @@ extern "C" {
         count: *mut u64,
     ) -> i32;
     fn wasmloop_kind(handle: *const Handle, kind: *mut u32) -> i32;
+    fn wasmloop_held(handle: *const Handle, bytes: *mut u64) -> i32;
     fn wasmloop_share(module: *const Handle, other: *mut Handle) -> i32;
     fn wasmloop_shape_of(module: *const Handle, shape: *mut Shape) -> i32;
     fn wasmloop_work(module: *const Handle, task: *const Task, bytes: *const u8, length: usize, job: *mut Handle) -> i32;
@@ -670,6 +671,15 @@ fn size(handle: &mut Handle, fails: Fails) -> Result<u64, Error> {
     }
 }
 
+/// How many bytes an object has, as wasmloop_held counts them.
+fn held(handle: &mut Handle, fails: Fails) -> Result<u64, Error> {
+    let mut bytes = 0;
+    match unsafe { wasmloop_held(handle, &mut bytes) } {
+        OK => Ok(bytes),
+        status => Err(fails(handle, status)),
+    }
+}
+
 fn has(handle: &mut Handle, at: u32, length: usize, fails: Fails) -> Result<(), Error> {
     within("end", u64::from(at) + length as u64, 0, size(handle, fails)?)
 }
@@ -712,6 +722,13 @@ impl Module {
         let mut other = NOTHING;
         done(unsafe { wasmloop_share(&self.0, &mut other) })?;
         Ok(Module(other))
+    }
+
+    /// How many bytes the module has.
+    pub fn held(&self) -> Result<u64, Error> {
+        let mut bytes = 0;
+        done(unsafe { wasmloop_held(&self.0, &mut bytes) })?;
+        Ok(bytes)
     }
 
     /// What the module has that a host looks for.
@@ -907,6 +924,11 @@ impl Instance {
         size(&mut self.0, instance_error)
     }
 
+    /// How many bytes the instance has: its memory as large as it is now, its table, the room of its calls, and its last reply.
+    pub fn held(&mut self) -> Result<u64, Error> {
+        held(&mut self.0, instance_error)
+    }
+
     /// Copies bytes out of the memory, from address `at`.
     pub fn read(&mut self, at: u32, into: &mut [u8]) -> Result<(), Error> {
         read(&mut self.0, at, into, instance_error)
@@ -989,6 +1011,11 @@ impl Job {
             _ => return Err(job_error(&mut self.0, NONE)),
         };
         Err(Error::Stopped { ending, trap, used: about.used })
+    }
+
+    /// How many bytes the job has: its input and its reply. It is not paused.
+    pub fn held(&mut self) -> Result<u64, Error> {
+        held(&mut self.0, job_error)
     }
 
     /// The input bytes.
@@ -1097,6 +1124,11 @@ impl Loop {
     /// The size of the memory in bytes.
     pub fn size(&mut self) -> Result<u64, Error> {
         size(&mut self.0, loop_error)
+    }
+
+    /// How many bytes the loop has: the memory as large as it is now, the table, and the room of its calls.
+    pub fn held(&mut self) -> Result<u64, Error> {
+        held(&mut self.0, loop_error)
     }
 
     /// Copies bytes out of the memory, from address `at`.

@@ -251,6 +251,7 @@ fn an_instance_keeps_its_memory() {
     it.read(at, &mut bytes).unwrap();
     assert_eq!(&bytes, b"apple");
     let size = it.size().unwrap() as u32;
+    assert!(it.held().unwrap() >= u64::from(size) + 525_320);
     assert_eq!(said(it.read(size, &mut bytes)), format!("end {} is out of range: expected 0 to {size}", size + 5));
     assert_eq!(said(it.write(size, b"x")), format!("end {} is out of range: expected 0 to {size}", size + 1));
     assert!(said(it.call("divide", &[1, 0], 1_000_000, 64)).starts_with("the call trapped: division by zero, after "));

@@ -1,6 +1,7 @@
 // The host is asked for an import.
 
 ghost use Rattle.std.specs.Prelude.{◌≡◌, ◌≤◌, ◌<◌, ◌+◌, ◌^◌, drop, length, IsSome, Some};
+ghost use Rattle.limits.specs.declared.TheConstants.{MAX_BYTES};
 ghost use Rattle.validate.specs.Typing.{type_of_function};
 ghost use Rattle.reduction.specs.Run.{IsImported, as_operands};
 ghost use Rattle.reduction.specs.Hosting.{Names};
@@ -60,6 +61,7 @@ fn ask_host<H: Host>(
     requires steps { at.old.pc + 1 < 2 ^ 64 }
     ensures asked { AsksImport contents.now H.moves import height at.old slots.old state.old host.old at.new slots.new state.new host.new }
     ensures copies { H.copied host.old ≤ H.copied host.new }
+    ensures few { H.copied host.new ≤ H.copied host.old + MAX_BYTES }
     ensures types { H.types host.new ≡ H.types host.old }
 {
     let params = type_of_import(contents, import).params.as_slice();
@@ -88,6 +90,7 @@ fn ask_above<H: Host>(
     requires steps { at.old.pc + 1 < 2 ^ 64 }
     ensures asked { AsksImport contents.now H.moves import height at.old (drop 1 slots.old) state.old host.old at.new (drop 1 slots.new) state.new host.new }
     ensures copies { H.copied host.old ≤ H.copied host.new }
+    ensures few { H.copied host.new ≤ H.copied host.old + MAX_BYTES }
     ensures types { H.types host.new ≡ H.types host.old }
 {
     ask_host(contents, state, host, &mut slots[1..], at, import, height);
@@ -109,6 +112,7 @@ pub fn ask_on<H: Host>(
     requires steps { at.old.pc + 1 < 2 ^ 64 }
     ensures asked { AsksImport contents.now H.moves import height at.old slots.old state.old host.old at.new slots.new state.new host.new }
     ensures copies { H.copied host.old ≤ H.copied host.new }
+    ensures few { H.copied host.new ≤ H.copied host.old + MAX_BYTES }
     ensures types { H.types host.new ≡ H.types host.old }
 {
     ask_above(

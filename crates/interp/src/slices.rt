@@ -118,7 +118,7 @@ pub(crate) fn go_on_lent<H: Host>(
     ensures stands { result ≡ None → IsSome slice.new.paused.last }
     ensures call { (slice.new.paused.function ≡ slice.old.paused.function) × (slice.new.paused.depth ≡ slice.old.paused.depth) }
     ensures slice { result ≡ None → UsesAll slice.old.paused slice.old.units (H.copied host.old) (H.copied host.new) slice.new.paused }
-    ensures last { IfSome result (λ o. UsesSome slice.old.paused slice.old.units o.ended.used) }
+    ensures last { IfSome result (λ o. UsesSome slice.old.paused slice.old.units (H.copied host.old) (H.copied host.new) o.ended.used) }
     ensures results { IfSome result (λ o. ReturnsTyped code.now.contents.now slice.old.paused.function (ended_in code.now.contents.now slice.old.paused.function o.ended places.new).ending) }
     ensures callers { IfSome result (λ o. IfSome o.last (λ l. l.depth ≤ MAX_DEPTH)) }
     ensures kept { IsStoreOf code.now.contents.now state.new }
@@ -187,7 +187,7 @@ pub(crate) fn go_on<H: Host>(
     ensures stands { result ≡ None → IsSome slice.new.paused.last }
     ensures call { (slice.new.paused.function ≡ slice.old.paused.function) × (slice.new.paused.depth ≡ slice.old.paused.depth) }
     ensures slice { result ≡ None → UsesAll slice.old.paused slice.old.units (H.copied host.old) (H.copied host.new) slice.new.paused }
-    ensures last { IfSome result (λ o. UsesSome slice.old.paused slice.old.units o.used) }
+    ensures last { IfSome result (λ o. UsesSome slice.old.paused slice.old.units (H.copied host.old) (H.copied host.new) o.used) }
     ensures results { IfSome result (λ o. ReturnsTyped code.now.contents.now slice.old.paused.function o.ending) }
     ensures callers { IfSome result (λ _. IfSome ended_at.new (λ l. l.depth ≤ MAX_DEPTH)) }
     ensures same { result ≡ None → ended_at.new ≡ ended_at.old }

@@ -3,8 +3,9 @@ use Rattle.order.proofs.Words.{AreResults, Computes, ExportsFunction, HasFunctio
 use Rattle.order.proofs.Words.{ComputesTo, Contents, end_of_run, FuncType, HostCall, I32, imported, IsLinked, Returned, StartRun, WorkHost, WorkOrder, WorkStop}
 use Rattle.order.proofs.Words.{arith, Caller, defined, Ending, EndsAs, Invokes, IsFresh, Now, Option, Paused, Return, reverse, RunEnd, Serves, ValType, WorkEnd}
 use Rattle.order.proofs.Words.{ap, Call, codes, Ended, Halt, List, None, refl, Some, Store, subst, sym, Value, Work, ℕ, [], ◌+◌, ◌-◌, ◌∙◌, ◌∷◌, ◌≡◌}
-use Rattle.std.proofs.Common.{◌<◌, ◌≤◌, length, inl, inr}
+use Rattle.std.proofs.Common.{◌*◌, ◌<◌, ◌≤◌, length, inl, inr}
 use Rattle.std.proofs.lemmas.Bool.{cases_lt}
+use Rattle.limits.specs.declared.TheConstants.{MAX_BYTES}
 use Rattle.reduction.specs.Invoking.{TakesArguments}
 use Rattle.reduction.proofs.OneRun.{not_both}
 use Rattle.interp.specs.Slices.{RunIsOver, RunIsPaused}
@@ -132,7 +133,7 @@ came_to o valid tables agree s t old new args fuel paused slots frames serves c 
 
 -- an order that went on with what was left of a slice went on for the whole slice
 module _ (o : WorkOrder) (used now copied copied' units rest : ℕ) (later : used ≤ now) (within : now ≤ used + units) (is : rest ≡ units - (now - used))
-    (more : copied ≤ copied') where
+    (more : copied ≤ copied') (few : MAX_BYTES * used + copied' ≤ MAX_BYTES * now + copied) where
   pub goes_on_from : (going : OrderGoing) → OrderGoesOn (record { order = o; used = now; copied = copied' }) rest going
       → OrderGoesOn (record { order = o; used = used; copied = copied }) units going
   goes_on_from (Over told) h =
@@ -151,11 +152,13 @@ module _ (o : WorkOrder) (used now copied copied' units rest : ℕ) (later : use
       let some = h.some in
       let most = h.most in
       let all = h.all in
+      let paid = h.few in
       record {
         order = h.order;
         some = omega (arith, some, is, later, within);
         most = omega (arith, most, is, later, within);
         all = omega (arith, all, is, later, within, more);
+        few = omega (arith, paid, few);
         left = h.left;
       }
 

@@ -1,5 +1,6 @@
 -- What a slice leaves of an order under way.
-use Rattle.std.specs.Prelude.{◌≡◌, ◌≢◌, ℕ, ◌+◌, ◌*◌, ◌<◌, ◌≤◌, min, Option, Some, None}
+use Rattle.std.specs.Prelude.{◌≡◌, ◌≢◌, ℕ, ◌+◌, ◌-◌, ◌*◌, ◌<◌, ◌≤◌, min, Option, Some, None}
+use Rattle.limits.specs.declared.TheConstants.{MAX_BYTES}
 use Rattle.instance.specs.Stops.{Halt}
 use Rattle.interp.specs.declared.paused.TheConstants.{UNIT_BYTES}
 use Rattle.order.specs.declared.run.Told.{Told}
@@ -22,13 +23,18 @@ pub record OrderIsOver (o : WorkOrder) (before units : ℕ) (told : Told) : Type
   pub within : told.used ≤ o.fuel
 
 -- It is under way, and some fuel is left. It has used some units more, where the slice had any, at most these, and all of these where each
--- UNIT_BYTES that were copied in the slice count as one.
+-- UNIT_BYTES that were copied in the slice count as one. At most MAX_BYTES were copied for each that it has used.
 pub record OrderIsPaused (before : Underway) (units : ℕ) (r : Underway) : Type 0 where
   pub order : r.order ≡ before.order
   pub some : before.used + min 1 units ≤ r.used
   pub most : r.used ≤ before.used + units
   pub all : UNIT_BYTES * (before.used + units) + before.copied ≤ UNIT_BYTES * r.used + r.copied
+  pub few : MAX_BYTES * before.used + r.copied ≤ MAX_BYTES * r.used + before.copied
   pub left : r.used < before.order.fuel
+
+-- so it has used at least one in 1,025 of them
+abbrev pub SlicesMakeHeadway : Type 0
+SlicesMakeHeadway = (before r : Underway) (units : ℕ) → OrderIsPaused before units r → units ≤ 1025 * (r.used - before.used)
 
 -- an order that had used so much goes on for so many units
 abbrev pub OrderGoesOn : Underway → (units : ℕ) → OrderGoing → Type 0

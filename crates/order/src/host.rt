@@ -3,11 +3,10 @@
 ghost use Rattle.std.specs.Prelude.{◌≡◌, ◌≤◌, [], IfOk, length, vec_capacity};
 ghost use Rattle.std.specs.Arc.{arc_value};
 ghost use Rattle.limits.specs.declared.TheConstants.{MAX_BYTES};
-ghost use Rattle.order.specs.Uv.Bytes.{set_out};
 
-use crate::uv::answers::{INVALID, NOT_HERE, OUTSIDE_MEMORY};
-use crate::uv::calls::{called, copy_in, counted, three, two};
-use imports::{Call, Linked};
+use crate::uv::answering::answered;
+use crate::uv::calls::{called, counted};
+use imports::Linked;
 use instance::memory::Memory;
 use interp::host::{Args, Host};
 use limits::MAX_BYTES;
@@ -62,27 +61,6 @@ impl WorkHost {
         reply.shrink_to_fit();
         reply
     }
-
-    fn set_out(&mut self, place: u32, count: u32, memory: &mut Memory) -> u32
-        ensures answer { result ≡ (set_out place count memory.old.bytes self.old.reply.items).0 }
-        ensures reply { self.new.reply.items ≡ (set_out place count memory.old.bytes self.old.reply.items).1 }
-        ensures linked { arc_value self.new.linked ≡ arc_value self.old.linked }
-        ensures bytes { arc_value self.new.bytes ≡ arc_value self.old.bytes }
-        ensures memory { memory.new ≡ memory.old }
-        ensures copied { self.new.copied ≡ self.old.copied }
-    {
-        if count as usize > MAX_BYTES {
-            return INVALID;
-        }
-        let Some(bytes) = memory.read(place as usize, count as usize) else {
-            return OUTSIDE_MEMORY;
-        };
-        self.reply.clear();
-        let Ok(()) = self.reply.extend_from_slice(bytes) else {
-            unreachable!();
-        };
-        0
-    }
 }
 
 impl Host for WorkHost {
@@ -100,19 +78,7 @@ impl Host for WorkHost {
 
     fn call(&mut self, import: u32, args: &Args, memory: &mut Memory) -> Option<Value> {
         let call = called(&self.linked, import, args);
-        let answer = match call {
-            Call::Now => Value::I64(u64::MAX),
-            Call::InLen => Value::I32(self.bytes.len() as u32),
-            Call::InCopy => {
-                let (to, from, count) = three(args);
-                Value::I32(copy_in(self.bytes.as_slice(), to, from, count, memory))
-            }
-            Call::OutSet => {
-                let (place, count) = two(args);
-                Value::I32(self.set_out(place, count, memory))
-            }
-            _ => Value::I32(NOT_HERE),
-        };
+        let answer = answered(call, args, self.bytes.as_slice(), &mut self.reply, memory);
         self.copied = counted(self.copied, call, args, answer);
         Some(answer)
     }

@@ -4,6 +4,7 @@ ghost use Rattle.reduction.specs.Hosting.{Names};
 ghost use Rattle.std.specs.Prelude.{◌≡◌, ◌≢◌, ℕ};
 ghost use Rattle.order.specs.ImportTypes.{import_types};
 ghost use Rattle.validate.specs.Valid.{ValidModule};
+ghost use Rattle.order.specs.Slices.{SlicesMakeHeadway};
 ghost use Rattle.order.specs.Stopping.{StoppedIsComputed};
 ghost use Rattle.order.specs.Uv.Numbers.{AreNumbers};
 ghost use Rattle.order.specs.Work.{WorkOrder, WorkEnd, NoMemory, Works, Computes, IsEndOf, IsShortEnd};
@@ -48,6 +49,11 @@ pub fn replies_agree()
 /// Where the trail of a run says that it stopped, there the run stopped that computes the order's end: one run has both.
 pub fn stopped_is_computed()
     ensures { StoppedIsComputed }
+{}
+
+/// A slice that leaves an order in progress uses at least one in 1,025 of its units, however many bytes it copies.
+pub fn slices_make_headway()
+    ensures { SlicesMakeHeadway }
 {}
 
 /// The numbers that a guest is answered are those of docs/UV.md.

@@ -24,7 +24,7 @@ pub mod uv;
 
 pub use order::{Order, Outcome};
 pub use reply::Reply;
-pub use reserving::RefusedMemory;
+pub use reserving::{RefusedMemory, reserve_machine};
 pub use run::Told;
 pub use running::{OrderGoing, Running};
 pub use trail::{MAX_TRAIL, Trail};

@@ -14,6 +14,7 @@ ghost use Rattle.instance.specs.Storing.{IsStoreOf};
 ghost use Rattle.instance.specs.Stops.{stop_of};
 ghost use Rattle.reduction.specs.Invoking.{TakesArguments, ReturnsTyped};
 ghost use Rattle.reduction.specs.Running.{AreResults};
+ghost use Rattle.interp.specs.Lent.{result_count, ending_with, ended_with, ended_in};
 ghost use Rattle.interp.specs.Machines.{MachineFits};
 ghost use Rattle.interp.specs.Slices.{UsesAll, UsesSome};
 ghost use Rattle.order.specs.declared.host.WorkHost.{WorkHost as Answering};
@@ -27,11 +28,10 @@ ghost use Rattle.order.specs.Inner.Going.{IsCallingOn, IsUnbegun, RunsOrder};
 use crate::host::WorkHost;
 use crate::order::Order;
 use crate::reserving::ReservedParts;
-use events::ended::Ended;
+use events::ended::BareEnded;
 use instance::stack::CallStack;
 use instance::state::State;
 use interp::call::FunctionCall;
-use interp::invoke::ended_with;
 use interp::machine::Machine;
 use interp::slices::{Paused, Slice};
 use syntax::types::Value;
@@ -77,6 +77,7 @@ impl WorkMachine {
     }
 
     /// Begins a call of a defined function of the order's module. Nothing of it runs yet.
+    #[inline(always)]
     pub(crate) fn begin(
         &mut self,
         order: &Order,
@@ -110,13 +111,21 @@ impl WorkMachine {
     }
 
     /// Goes on with a call of a function of the order's module for at most the units of the slice, and returns its ending, if it is
-    /// over then.
-    pub(crate) fn go_on(&mut self, order: &Order, slice: &mut Slice) -> Option<Ended>
+    /// over then. Its results are written to the first of the places that are lent, at least as many as it has.
+    #[inline(always)]
+    pub(crate) fn go_on(
+        &mut self,
+        order: &Order,
+        slice: &mut Slice,
+        places: &mut [Value],
+    ) -> Option<BareEnded>
         requires runs { RunsOrder (order_of order.now) self.old }
         requires calling { (s : Store) × (old : Answering) × (args : List Argument) × (fuel : ℕ) × IsCallingOn (order_of order.now) self.old s old slice.old.paused fuel args }
+        requires places { result_count (arc_value order.now.module).contents slice.old.paused.function ≤ length places.old }
         ensures over { IfSome result (λ ended. (s : Store) (old : Answering) (args : List Argument) (fuel : ℕ)
             → IsCallingOn (order_of order.now) self.old s old slice.old.paused fuel args
-            → WorkStop (order_of order.now) fuel s old.reply.items slice.old.paused.function args ended self.new.state self.new.host.reply.items
+            → WorkStop (order_of order.now) fuel s old.reply.items slice.old.paused.function args
+            (ended_in (arc_value order.now.module).contents slice.old.paused.function ended places.new) self.new.state self.new.host.reply.items
             (stop_of self.new.machine.last self.new.machine.frames.items) × Serves self.new.host (order_of order.now) × (ended.used ≤ fuel)) }
         ensures paused { result ≡ None → (s : Store) (old : Answering) (args : List Argument) (fuel : ℕ)
             → IsCallingOn (order_of order.now) self.old s old slice.old.paused fuel args
@@ -124,8 +133,9 @@ impl WorkMachine {
         ensures stands { result ≡ None → IsSome slice.new.paused.last }
         ensures function { slice.new.paused.function ≡ slice.old.paused.function }
         ensures slice { result ≡ None → UsesAll slice.old.paused slice.old.units self.old.host.copied self.new.host.copied slice.new.paused }
-        ensures last { IfSome result (λ e. UsesSome slice.old.paused slice.old.units e.used) }
-        ensures results { IfSome result (λ e. ReturnsTyped (arc_value order.now.module).contents slice.old.paused.function e.ending) }
+        ensures last { IfSome result (λ e. UsesSome slice.old.paused slice.old.units self.old.host.copied self.new.host.copied e.used) }
+        ensures results { IfSome result (λ e. ReturnsTyped (arc_value order.now.module).contents slice.old.paused.function
+            (ended_in (arc_value order.now.module).contents slice.old.paused.function e places.new).ending) }
         ensures copies { self.old.host.copied ≤ self.new.host.copied }
         ensures store { IsStoreOf (arc_value order.now.module).contents self.new.state }
         ensures runs { RunsOrder (order_of order.now) self.new }
@@ -135,10 +145,11 @@ impl WorkMachine {
             host,
             machine,
         } = self;
-        machine.go_on(order.module.valid(), state, host, slice)
+        machine.go_on_lent(order.module.valid(), state, host, slice, places)
     }
 
     /// The stack and the host, where the order is over.
+    #[inline(always)]
     pub(crate) fn into_parts(self) -> (CallStack, WorkHost)
         requires room { MAX_DEPTH ≤ length self.machine.frames.items }
         requires shallow { IfSome self.machine.last (λ l. l.depth ≤ MAX_DEPTH) }
@@ -153,16 +164,22 @@ impl WorkMachine {
         (machine.into_stack(), host)
     }
 
-    /// Calls `uv_work`, which is this imported function and uses no fuel.
-    pub(crate) fn ask(self, order: &Order, function: u32, fuel: u64) -> (Ended, CallStack, WorkHost)
+    /// Calls `uv_work`, which is this imported function and uses no fuel. Its result is beside its ending.
+    pub(crate) fn ask(
+        self,
+        order: &Order,
+        function: u32,
+        fuel: u64,
+    ) -> (BareEnded, Value, CallStack, WorkHost)
         requires runs { RunsOrder (order_of order.now) self }
         requires store { IsStoreOf (arc_value order.now.module).contents self.state }
         requires serves { Serves self.host (order_of order.now) }
         requires typed { type_of_function (arc_value order.now.module).contents function ≡ Some (type_of_entry Work) }
         requires imported { function < length (arc_value order.now.module).contents.imports }
-        ensures ran { (t : Store) × WorkStop (order_of order.now) fuel self.state self.host.reply.items function (value.I32 order.now.op ∷ []) result.0 t result.2.reply.items result.1 }
+        ensures ran { (t : Store) × WorkStop (order_of order.now) fuel self.state self.host.reply.items function (value.I32 order.now.op ∷ [])
+            (ended_with result.0 (result.1 ∷ [])) t result.3.reply.items result.2 }
         ensures free { result.0.used ≡ 0 }
-        ensures results { AreResults result.0.ending (valtype.I32 ∷ []) }
+        ensures results { AreResults (ending_with result.0.ending (result.1 ∷ [])) (valtype.I32 ∷ []) }
     {
         let WorkMachine {
             state,
@@ -172,6 +189,6 @@ impl WorkMachine {
         let (mut state, mut host) = (state, host);
         let mut stack = machine.into_stack();
         let (ended, value) = order.call_work(&mut state, &mut stack, &mut host, function, fuel);
-        (ended_with(ended, &[value]), stack, host)
+        (ended, value, stack, host)
     }
 }

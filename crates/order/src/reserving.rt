@@ -1,8 +1,9 @@
 // The memory of an order's run, which is reserved before it.
 
-ghost use Rattle.std.specs.Prelude.{◌≡◌, ◌≤◌, [], vec_capacity, IfOk};
+ghost use Rattle.std.specs.Prelude.{◌≡◌, ◌≤◌, [], None, vec_capacity, IfOk};
 ghost use Rattle.std.specs.Arc.{arc_value};
 ghost use Rattle.limits.specs.declared.TheConstants.{MAX_BYTES};
+ghost use Rattle.instance.specs.Stops.{stop_of};
 ghost use Rattle.interp.specs.Machines.{MachineFits};
 ghost use Rattle.order.specs.Inner.Ready.{IsReadyToRun};
 
@@ -14,6 +15,7 @@ use interp::machine::Machine;
 use limits::MAX_BYTES;
 use std::alloc::{AllocError, Global};
 use std::sync::Arc;
+use validate::Valid;
 
 /// Memory was refused. One is made in this module alone, where an allocation was, by functions that see neither the operation nor what is
 /// in the input: so there is no memory for an order only where it was refused.
@@ -127,6 +129,17 @@ pub(crate) fn reserve_parts<T: Drop>(
 {
     match all_parts(alloc, linked, input) {
         Ok(reserved) => Ok(reserved),
+        Err(by) => Err(RefusedMemory { by }),
+    }
+}
+
+/// Reserves what calls in slices run on, besides the state and the host of their instance.
+pub fn reserve_machine(alloc: Global, valid: &Valid) -> Result<Machine, RefusedMemory>
+    ensures fits { IfOk result (λ m. MachineFits valid.now.contents m) }
+    ensures stop { IfOk result (λ m. stop_of m.last m.frames.items ≡ None) }
+{
+    match Machine::new(alloc, valid) {
+        Ok(machine) => Ok(machine),
         Err(by) => Err(RefusedMemory { by }),
     }
 }

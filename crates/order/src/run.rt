@@ -26,7 +26,7 @@ use crate::order::{Order, Outcome};
 use crate::reply::Reply;
 use crate::reserving::{RefusedMemory, Reserved, reserve};
 use crate::trail::Trail;
-use events::ended::{BareEnded, BareEnding, Ending};
+use events::ended::{BareEnded, BareEnding};
 use imports::EntryPoint;
 use imports::laws::names_are_apart;
 use instance::room::Room;
@@ -38,7 +38,7 @@ use std::alloc::Global;
 use syntax::types::Value;
 
 /// How `uv_work`, or the start function where that did not return, reads as an outcome: this is its result, where it returned.
-fn outcome_of(ending: BareEnding, value: Value, reply: Vec<u8>) -> Outcome
+pub(crate) fn outcome_of(ending: BareEnding, value: Value, reply: Vec<u8>) -> Outcome
     requires { AreResults (ending_with ending (value ∷ [])) (valtype.I32 ∷ []) }
     ensures end { EndsAs (end_of_run (ending_with ending (value ∷ []))) reply.items (end_of result) }
     ensures told { end_of result ≢ NoMemory }
@@ -51,21 +51,6 @@ fn outcome_of(ending: BareEnding, value: Value, reply: Vec<u8>) -> Outcome
         BareEnding::Trap(trap) => Outcome::Trap(trap),
         BareEnding::Depth => Outcome::Depth,
         BareEnding::Spent => Outcome::Spent,
-    }
-}
-
-/// The outcome of a run in slices, which answers its results.
-pub(crate) fn outcome_from(ending: Ending, reply: Vec<u8>) -> Outcome
-    requires { AreResults ending (valtype.I32 ∷ []) }
-    ensures end { EndsAs (end_of_run ending) reply.items (end_of result) }
-    ensures told { end_of result ≢ NoMemory }
-{
-    match ending {
-        Ending::Return(values) => match values.get(0) {
-            Some(value) => outcome_of(BareEnding::Return, value, reply),
-            None => unreachable!(),
-        },
-        other => outcome_of(BareEnding::of(&other), Value::I32(0), reply),
     }
 }
 

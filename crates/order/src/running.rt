@@ -12,6 +12,7 @@ ghost use Rattle.validate.specs.Typing.{type_of_function};
 ghost use Rattle.imports.specs.Linking.{ExportsFunction};
 ghost use Rattle.imports.specs.Uv.{type_of_entry};
 ghost use Rattle.imports.specs.declared.entry_point.EntryPoint.TheVariants.{Work};
+ghost use Rattle.interp.specs.Lent.{ending_with};
 ghost use Rattle.interp.specs.Machines.{MachineFits};
 ghost use Rattle.order.specs.Orders.{order_of, end_of};
 ghost use Rattle.order.specs.Work.{WorkEnd, NoMemory, EndsAs, Computes, Uses};
@@ -27,10 +28,10 @@ use crate::machine::WorkMachine;
 use crate::order::{Order, Outcome};
 use crate::reply::Reply;
 use crate::reserving::{RefusedMemory, ReservedParts, reserve_parts};
-use crate::run::{Told, outcome_from};
+use crate::run::{Told, outcome_of};
 use crate::stage::RunStage;
 use crate::trail::Trail;
-use events::ended::Ending;
+use events::ended::BareEnding;
 use imports::EntryPoint;
 use imports::laws::names_are_apart;
 use instance::stack::{CallStack, Stop};
@@ -184,11 +185,19 @@ fn used_at(fuel: u64, stage: &RunStage) -> u64
 }
 
 /// The answer for an order that is over.
-fn tell(order: Order, host: WorkHost, stack: CallStack, ending: Ending, used: u64) -> Told
+#[inline(always)]
+fn tell(
+    order: Order,
+    host: WorkHost,
+    stack: CallStack,
+    ending: BareEnding,
+    value: Value,
+    used: u64,
+) -> Told
     requires valid { ValidModule (arc_value order.module).contents }
-    requires computes { (end : WorkEnd) → EndsAs (end_of_run ending) host.reply.items end → Computes (order_of order) end used }
-    requires stops { (end : WorkEnd) → EndsAs (end_of_run ending) host.reply.items end → ComputesTo (order_of order) end used stack }
-    requires results { AreResults ending (valtype.I32 ∷ []) }
+    requires computes { (end : WorkEnd) → EndsAs (end_of_run (ending_with ending (value ∷ []))) host.reply.items end → Computes (order_of order) end used }
+    requires stops { (end : WorkEnd) → EndsAs (end_of_run (ending_with ending (value ∷ []))) host.reply.items end → ComputesTo (order_of order) end used stack }
+    requires results { AreResults (ending_with ending (value ∷ [])) (valtype.I32 ∷ []) }
     ensures order { order_of result.reply.order ≡ order_of order }
     ensures memory { end_of result.reply.outcome ≢ NoMemory }
     ensures uses { Uses (order_of order) (end_of result.reply.outcome) result.used }
@@ -197,7 +206,7 @@ fn tell(order: Order, host: WorkHost, stack: CallStack, ending: Ending, used: u6
 {
     names_are_apart();
     let trail = Trail::of_last(&stack);
-    let outcome = outcome_from(ending, host.into_reply());
+    let outcome = outcome_of(ending, value, host.into_reply());
     Told {
         reply: Reply { order, outcome },
         used,
@@ -206,11 +215,12 @@ fn tell(order: Order, host: WorkHost, stack: CallStack, ending: Ending, used: u6
 }
 
 /// The answer for an order whose machine is at its end.
-fn over(order: Order, machine: WorkMachine, ending: Ending, used: u64) -> Told
+#[inline(always)]
+fn over(order: Order, machine: WorkMachine, ending: BareEnding, value: Value, used: u64) -> Told
     requires runs { RunsOrder (order_of order) machine }
-    requires computes { (end : WorkEnd) → EndsAs (end_of_run ending) machine.host.reply.items end
+    requires computes { (end : WorkEnd) → EndsAs (end_of_run (ending_with ending (value ∷ []))) machine.host.reply.items end
         → Computes (order_of order) end used × ComputesTo (order_of order) end used (stop_of machine.machine.last machine.machine.frames.items) }
-    requires results { AreResults ending (valtype.I32 ∷ []) }
+    requires results { AreResults (ending_with ending (value ∷ [])) (valtype.I32 ∷ []) }
     ensures order { order_of result.reply.order ≡ order_of order }
     ensures memory { end_of result.reply.outcome ≢ NoMemory }
     ensures uses { Uses (order_of order) (end_of result.reply.outcome) result.used }
@@ -218,10 +228,11 @@ fn over(order: Order, machine: WorkMachine, ending: Ending, used: u64) -> Told
     ensures used { result.used ≡ used }
 {
     let (stack, host) = machine.into_parts();
-    tell(order, host, stack, ending, used)
+    tell(order, host, stack, ending, value, used)
 }
 
 /// Begins the start function, where there is one, and goes on.
+#[inline(always)]
 fn begin_start(order: Order, machine: WorkMachine, units: u64) -> OrderGoing
     requires runs { RunsOrder (order_of order) machine }
     requires unbegun { IsUnbegun (order_of order) machine }
@@ -243,21 +254,23 @@ fn start_on(order: Order, machine: WorkMachine, paused: Paused, units: u64) -> O
 {
     let mut machine = machine;
     let mut slice = Slice { paused, units };
-    let Some(ended) = machine.go_on(&order, &mut slice) else {
+    let Some(ended) = machine.go_on(&order, &mut slice, &mut []) else {
         return OrderGoing::Paused(Running {
             order,
             machine,
             stage: RunStage::Starting(slice.paused),
         });
     };
-    let Ending::Return(_) = ended.ending else {
-        return OrderGoing::Over(over(order, machine, ended.ending, ended.used));
+    let BareEnding::Return = ended.ending else {
+        let told = over(order, machine, ended.ending, Value::I32(0), ended.used);
+        return OrderGoing::Over(told);
     };
     let rest = units - (ended.used - paused.used());
     begin_work(order, machine, ended.used, rest)
 }
 
 /// Begins `uv_work`, after a start function that used so much, or none, and goes on.
+#[inline(always)]
 fn begin_work(order: Order, machine: WorkMachine, first: u64, units: u64) -> OrderGoing
     requires runs { RunsOrder (order_of order) machine }
     requires store { IsStoreOf (arc_value order.module).contents machine.state }
@@ -278,6 +291,7 @@ fn begin_work(order: Order, machine: WorkMachine, first: u64, units: u64) -> Ord
 }
 
 /// Goes on with `uv_work`, after a start function that used so much, or none.
+#[inline(always)]
 fn work_on(order: Order, machine: WorkMachine, first: u64, paused: Paused, units: u64) -> OrderGoing
     requires runs { RunsOrder (order_of order) machine }
     requires working { IsWorking (order_of order) machine first paused }
@@ -285,7 +299,8 @@ fn work_on(order: Order, machine: WorkMachine, first: u64, paused: Paused, units
 {
     let mut machine = machine;
     let mut slice = Slice { paused, units };
-    let Some(ended) = machine.go_on(&order, &mut slice) else {
+    let mut places = [Value::I32(0)];
+    let Some(ended) = machine.go_on(&order, &mut slice, &mut places) else {
         return OrderGoing::Paused(Running {
             order,
             machine,
@@ -293,7 +308,7 @@ fn work_on(order: Order, machine: WorkMachine, first: u64, paused: Paused, units
         });
     };
     let used = first + ended.used;
-    OrderGoing::Over(over(order, machine, ended.ending, used))
+    OrderGoing::Over(over(order, machine, ended.ending, places[0], used))
 }
 
 /// Asks the host for a `uv_work` that is an import, after a start function that used so much, or none.
@@ -311,6 +326,6 @@ fn ask(order: Order, machine: WorkMachine, function: u32, first: u64) -> Told
     ensures leaves { LeavesTrail (order_of order) (end_of result.reply.outcome) result.used result.trail }
     ensures used { result.used ≡ first }
 {
-    let (ended, stack, host) = machine.ask(&order, function, order.fuel - first);
-    tell(order, host, stack, ended.ending, first)
+    let (ended, value, stack, host) = machine.ask(&order, function, order.fuel - first);
+    tell(order, host, stack, ended.ending, value, first)
 }

@@ -1,5 +1,6 @@
 -- What a slice leaves of a step.
-use Rattle.std.specs.Prelude.{◌≡◌, ℕ, ◌+◌, ◌*◌, ◌<◌, ◌≤◌, min}
+use Rattle.std.specs.Prelude.{◌≡◌, ℕ, ◌+◌, ◌-◌, ◌*◌, ◌<◌, ◌≤◌, min}
+use Rattle.limits.specs.declared.TheConstants.{MAX_BYTES}
 use Rattle.events.specs.declared.did.StepDid.{StepDid}
 use Rattle.events.specs.declared.did.StepDid.TheVariants.{Ran}
 use Rattle.events.specs.declared.ended.Ended.{Ended}
@@ -26,12 +27,17 @@ module _ {S : Type 0} (calls : Calls S) where
     pub slice : ended.used ≤ used_by_step s + units
 
   -- It is under way still, and some fuel is left. It has used some units more, at most the slice's, and all of these where each UNIT_BYTES that
-  -- were copied in the slice count as one.
+  -- were copied in the slice count as one. At most MAX_BYTES were copied for each that it has used.
   pub record StepIsPaused (s : StepInSlices S) (units : ℕ) (t : StepInSlices S) : Type 0 where
     pub goes_on : (a : Core S) → StepHasCome calls a s → StepHasCome calls a t × (used_by_step t < a.setting.fuel)
     pub some : used_by_step s + min 1 units ≤ used_by_step t
     pub most : used_by_step t ≤ used_by_step s + units
     pub all : UNIT_BYTES * (used_by_step s + units) + s.copied ≤ UNIT_BYTES * used_by_step t + t.copied
+    pub few : MAX_BYTES * used_by_step s + t.copied ≤ MAX_BYTES * used_by_step t + s.copied
+
+  -- so its callback has used at least one in 1,025 of them
+  abbrev pub SlicesMakeHeadway : Type 0
+  SlicesMakeHeadway = (s t : StepInSlices S) (units : ℕ) → StepIsPaused s units t → units ≤ 1025 * (used_by_step t - used_by_step s)
 
 -- A step begins on a loop: where no callback runs it is over, and else nothing of that has run, and nothing is copied.
 abbrev pub StepBegins : {S : Type 0} → Calls S → Core S → StepSlice S → Type 0

@@ -2,6 +2,7 @@
 
 ghost use Rattle.phases.specs.Kinds.{AreKinds};
 ghost use Rattle.phases.specs.Laws.{IsAfterOnce, IsAfterOwn, IsAfterLast, IsAskedOnce, IsHandedOnce, IsHandedOwn};
+ghost use Rattle.phases.specs.Slices.{SlicesMakeHeadway};
 
 use crate::shared::Shared;
 
@@ -20,6 +21,11 @@ pub fn asked_once<B: Shared>()
     ensures asked { IsAskedOnce B.calls }
     ensures handed { IsHandedOnce B.calls }
     ensures own { IsHandedOwn B.calls }
+{}
+
+/// A slice that leaves a step in progress uses at least one in 1,025 of its units, however many bytes the callback copies.
+pub fn slices_make_headway<B: Shared>()
+    ensures { SlicesMakeHeadway B.calls }
 {}
 
 /// The kinds that an after-work callback is given are those of docs/UV.md.

@@ -92,7 +92,7 @@ impl<B: Shared + Drop> LoopMachine<B> {
             → IsPausedOn valid.now.contents self.new.machine (moves B.calls) s before args fuel slice.new.paused self.new.store self.new.host }
         ensures call { (slice.new.paused.function ≡ slice.old.paused.function) × (slice.new.paused.depth ≡ slice.old.paused.depth) }
         ensures slice { result ≡ None → UsesAll slice.old.paused slice.old.units self.old.host.copied self.new.host.copied slice.new.paused }
-        ensures last { IfSome result (λ ended. UsesSome slice.old.paused slice.old.units ended.used) }
+        ensures last { IfSome result (λ ended. UsesSome slice.old.paused slice.old.units self.old.host.copied self.new.host.copied ended.used) }
         ensures results { IfSome result (λ ended. ReturnsTyped valid.now.contents slice.old.paused.function ended.ending) }
         ensures kept { IsStoreOf valid.now.contents self.new.store }
         ensures fits { LoopMachineFits valid.now self.new }

@@ -18,9 +18,11 @@ use crate::shared::Shared;
 use events::did::StepDid;
 use events::phase::EntryKind;
 use imports::Linked;
+use instance::state::State;
 use interp::machine::Machine;
 use interp::slices::{Paused, Slice};
 use order::laws::imports_are_named;
+use order::{RefusedMemory, reserve_machine};
 use std::alloc::Global;
 use std::marker::Model;
 use std::sync::Arc;
@@ -65,13 +67,14 @@ pub enum StepSlice<B: Shared + Drop> {
 
 impl<B: Shared + Drop> LoopCore<B> {
     /// Begins a step, to be made in slices. It is over at once where no callback runs; else the callback begins, and nothing of it runs yet.
-    /// All memory that it takes is taken here; where that is refused, the loop comes back.
-    pub fn begin_step(self) -> Result<StepSlice<B>, Self>
+    /// All memory that it takes is taken here; only where that is refused does the loop come back.
+    pub fn begin_step(self) -> Result<StepSlice<B>, (Self, RefusedMemory)>
         ensures begun { IfOk result (StepBegins B.calls self) }
-        ensures refused { IfErr result (λ same. same ≡ self) }
+        ensures refused { IfErr result (λ back. back.0 ≡ self) }
     {
-        let Ok(reserved) = Machine::new(self.host.alloc, self.linked.valid()) else {
-            return Err(self);
+        let reserved = match reserve_machine(self.host.alloc, self.linked.valid()) {
+            Ok(reserved) => reserved,
+            Err(refused) => return Err((self, refused)),
         };
         let mut core = self;
         match core.prepare() {
@@ -149,6 +152,20 @@ impl<B: Shared + Drop> Stepping<B> {
                 paused: slice.paused,
             }),
         }
+    }
+
+    /// Its module.
+    pub fn linked(&self) -> &Linked
+        ensures { result.now ≡ self.now.loaded }
+    {
+        &self.linked
+    }
+
+    /// Its instance as it stands.
+    pub fn store(&self) -> &State
+        ensures { result.now ≡ self.now.loop.store }
+    {
+        &self.machine.store
     }
 
     /// The units of fuel that its callback has used.

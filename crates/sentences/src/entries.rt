@@ -8,10 +8,11 @@ ghost use Rattle.sentences.specs.declared.defect.Defect.TheVariants as defect;
 ghost use Rattle.sentences.specs.Defects.{EntryNames, HaveOneName, IsDefectOfSection, section_of_entry, space_of_extern};
 
 use crate::defect::{Defect, IndexSpace, SectionEntry};
+use crate::memory::{RefusedMemory, export_name};
 use crate::spaces::{count_in_module, dangling};
 use limits::{MAX_IMPORT_RESULTS, MAX_RESULTS};
-use places::{DATA, ELEMENTS, EXPORTS, FUNCTIONS, GLOBALS, IMPORTS, Place, TYPES};
-use std::alloc::{AllocError, Global};
+use places::{DATA, ELEMENTS, EXPORTS, FUNCTIONS, GLOBALS, IMPORTS, TYPES};
+use std::alloc::Global;
 use syntax::contents::{Contents, ExternKind, FuncType};
 use syntax::initializer::Initializer;
 use syntax::module::Module;
@@ -109,28 +110,25 @@ fn space_of(kind: ExternKind) -> IndexSpace
     }
 }
 
-/// Two exports with one name. (The names of a decoded module are UTF-8, so that only an allocation can fail.)
+/// Two exports with one name.
 fn twice(
     alloc: Global,
     contents: &Contents,
     first: usize,
     second: usize,
     name: &[u8],
-) -> Result<Defect, AllocError>
+) -> Result<Defect, RefusedMemory>
     requires { HaveOneName contents.now first second name.now }
     ensures { IfOk result (IsDefectOfSection contents.now 7) }
 {
-    match Place::export(alloc, name) {
-        Some(Place::Export { name }) => Ok(Defect::Twice {
-            first,
-            second,
-            name,
-        }),
-        _ => Err(AllocError),
-    }
+    Ok(Defect::Twice {
+        first,
+        second,
+        name: export_name(alloc, name)?,
+    })
 }
 
-fn of_export(alloc: Global, module: &Module, number: usize) -> Result<Option<Defect>, AllocError>
+fn of_export(alloc: Global, module: &Module, number: usize) -> Result<Option<Defect>, RefusedMemory>
     ensures { IfOk result (λ found. IfSome found (IsDefectOfSection «module».now.contents 7)) }
 {
     let contents = module.contents();
@@ -216,7 +214,7 @@ fn of_entry(
     module: &Module,
     section: u8,
     number: usize,
-) -> Result<Option<Defect>, AllocError>
+) -> Result<Option<Defect>, RefusedMemory>
     ensures { IfOk result (λ found. IfSome found (IsDefectOfSection «module».now.contents section)) }
 {
     let contents = module.contents();
@@ -253,7 +251,7 @@ pub fn section_defect(
     alloc: Global,
     module: &Module,
     section: u8,
-) -> Result<Option<Defect>, AllocError>
+) -> Result<Option<Defect>, RefusedMemory>
     ensures { IfOk result (λ found. IfSome found (IsDefectOfSection «module».now.contents section)) }
 {
     for number in 0..count_of(module.contents(), section) {

@@ -9,15 +9,15 @@ use crate::defect::Defect;
 use crate::entries::section_defect;
 use crate::found;
 use crate::help::{NO_TABLES, OPTIMIZED};
+use crate::memory::{RefusedMemory, decoded, invalid_at};
 use crate::operations::operation_defect;
 use crate::reason::{Finding, Reason};
 use crate::types::name_of_type;
 use limits::{MAX_HEIGHT, MAX_LOCALS, MAX_NESTING};
-use loader::{Refusal, decoded};
 use places::{Place, is_object, place_of_function, place_of_operation, place_of_section};
-use std::alloc::{AllocError, Global};
+use std::alloc::Global;
 use syntax::module::Module;
-use validate::{InvalidPart, Unfit, ValidFault, refused_at};
+use validate::{InvalidPart, Unfit, ValidFault};
 
 fn place_of(bytes: &[u8], site: InvalidPart) -> Option<Place>
     ensures { IfSome result (IsPlaceOfSite bytes.now site) }
@@ -84,7 +84,7 @@ fn defect_of(
     fault: ValidFault,
     site: InvalidPart,
     is_known: bool,
-) -> Result<Option<Defect>, AllocError>
+) -> Result<Option<Defect>, RefusedMemory>
     ensures { IfOk result (λ found. IfSome found (IsDefectOf «module».now.contents site)) }
 {
     if is_known || is_object(module.bytes()) {
@@ -106,20 +106,15 @@ pub fn invalid(
     alloc: Global,
     bytes: &[u8],
     fault: ValidFault,
-) -> Result<Option<Finding>, AllocError>
+) -> Result<Option<Finding>, RefusedMemory>
     ensures { IfOk result (λ found. IfSome found (λ it. IsToldOf (Validate fault) bytes.now it.place it.defect)) }
 {
-    let module = match decoded(alloc, bytes) {
-        Ok(module) => module,
-        Err(Refusal::Memory) => return Err(AllocError),
-        Err(_) => return Ok(None),
-    };
-    let Some(refused) = refused_at(alloc, &module) else {
+    let Some(module) = decoded(alloc, bytes)? else {
         return Ok(None);
     };
-    if refused.fault == ValidFault::Memory {
-        return Err(AllocError);
-    }
+    let Some(refused) = invalid_at(alloc, &module)? else {
+        return Ok(None);
+    };
     if refused.fault != fault {
         return Ok(None);
     }

@@ -7,13 +7,14 @@ use crate::defect::Defect;
 use crate::help::LINKED;
 use crate::invalid::invalid;
 use crate::meanings::meaning;
+use crate::memory::RefusedMemory;
 use crate::reason::{Finding, Reason};
 use crate::undecoded::undecoded;
 use crate::unlinked::unlinked;
 use limits::MAX_MODULE_BYTES;
 use loader::Refusal;
 use places::{Place, is_object};
-use std::alloc::{AllocError, Global};
+use std::alloc::Global;
 use std::fmt;
 
 /// Where bytes are rejected, and what breaks a rule there, as far as that is known, and why. It prints as a sentence.
@@ -37,11 +38,11 @@ impl fmt::Display for RefusalAccount {
 }
 
 /// What is found at the place of the rejection. The bytes are read again.
-fn found_at(refusal: Refusal, alloc: Global, bytes: &[u8]) -> Result<Option<Finding>, AllocError>
+fn found_at(refusal: Refusal, alloc: Global, bytes: &[u8]) -> Result<Option<Finding>, RefusedMemory>
     ensures { IfOk result (λ found. IfSome found (λ it. IsToldOf refusal bytes.now it.place it.defect)) }
 {
     match refusal {
-        Refusal::Memory => Err(AllocError),
+        Refusal::Memory => Ok(None),
         Refusal::Decode(fault) => undecoded(alloc, bytes, fault),
         Refusal::Validate(fault) => invalid(alloc, bytes, fault),
         Refusal::Link(fault) => unlinked(alloc, bytes, fault),
@@ -81,12 +82,12 @@ fn account(refusal: Refusal, bytes: &[u8], finding: Option<Finding>) -> RefusalA
     }
 }
 
-/// Where and why these bytes are rejected. It reads them again. An error means that an allocation failed.
+/// Where and why these bytes are rejected. It reads them again.
 pub fn try_explain(
     refusal: Refusal,
     alloc: Global,
     bytes: &[u8],
-) -> Result<RefusalAccount, AllocError>
+) -> Result<RefusalAccount, RefusedMemory>
     ensures { IfOk result (IsTrueOf refusal bytes.now) }
 {
     let finding = found_at(refusal, alloc, bytes)?;
@@ -99,7 +100,7 @@ pub fn explain(refusal: Refusal, alloc: Global, bytes: &[u8]) -> RefusalAccount
 {
     match try_explain(refusal, alloc, bytes) {
         Ok(told) => told,
-        Err(AllocError) => account(refusal, bytes, None),
+        Err(_) => account(refusal, bytes, None),
     }
 }
 

@@ -5,10 +5,11 @@ ghost use Rattle.loader.specs.declared.refusal.Refusal.TheVariants.{Decode};
 ghost use Rattle.sentences.specs.RefusalPlaces.{IsToldOf};
 
 use crate::found;
+use crate::memory::{RefusedMemory, malformed_at};
 use crate::reason::{Finding, Reason};
-use decode::{DecodeFault, MalformedAt, refused_at};
+use decode::{DecodeFault, MalformedAt};
 use places::{Part, Place, part_with};
-use std::alloc::{AllocError, Global};
+use std::alloc::Global;
 
 /// Which segment is to blame, where the fault is in one.
 fn of_segment(bytes: &[u8], part: Option<Part>) -> Option<Reason> {
@@ -42,15 +43,12 @@ pub fn undecoded(
     alloc: Global,
     bytes: &[u8],
     fault: DecodeFault,
-) -> Result<Option<Finding>, AllocError>
+) -> Result<Option<Finding>, RefusedMemory>
     ensures { IfOk result (λ found. IfSome found (λ it. IsToldOf (Decode fault) bytes.now it.place it.defect)) }
 {
-    let Some(refused) = refused_at(alloc, bytes) else {
+    let Some(refused) = malformed_at(alloc, bytes)? else {
         return Ok(None);
     };
-    if refused.fault == DecodeFault::Memory {
-        return Err(AllocError);
-    }
     if refused.fault != fault {
         return Ok(None);
     }

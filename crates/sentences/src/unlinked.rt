@@ -6,27 +6,29 @@ ghost use Rattle.sentences.specs.RefusalPlaces.{IsPlaceOfMisfit, IsToldOf};
 
 use crate::help::DEFINED;
 use crate::meanings::of_link;
+use crate::memory::{Page, RefusedMemory, export_name, import_place, text, validated};
 use crate::reason::{Finding, Reason};
 use crate::types::SpelledType;
 use imports::{Call, CallType, EntryPoint, LinkFault, UnlinkedPart, refused_at};
 use limits::PAGE_SIZE;
-use loader::{Refusal, validated};
 use places::{DATA, ELEMENTS, Place, place_of_section};
-use std::alloc::{AllocError, Global};
+use std::alloc::Global;
 use syntax::contents::{Contents, ExternKind, FuncType, Import, ModuleExport};
 use syntax::initializer::Initializer;
 use syntax::types::Value;
 use validate::{type_at, type_of_function};
 
 /// The functions that can be imported.
-fn offered(alloc: Global) -> Result<String, AllocError> {
-    let mut text = String::from_str(alloc, "it has")?;
+fn offered(alloc: Global) -> Result<String, RefusedMemory> {
+    let mut page = Page::new(alloc);
+    page.add("it has");
     let mut between = " ";
     for call in Call::ALL {
-        write!(text, "{between}{}", call.name())?;
+        page.add(between);
+        page.add(call.name());
         between = ", ";
     }
-    Ok(text)
+    page.finish()
 }
 
 /// The expected type, and the one found.
@@ -34,13 +36,13 @@ fn compared(
     alloc: Global,
     wanted: CallType,
     found: Option<&FuncType>,
-) -> Result<Option<String>, AllocError> {
+) -> Result<Option<String>, RefusedMemory> {
     let Some(found) = found else {
         return Ok(None);
     };
     let wanted = SpelledType::new(wanted.params, wanted.results);
     let found = SpelledType::new(found.params.as_slice(), found.results.as_slice());
-    Ok(Some(format!(in alloc; "expected {wanted}, found {found}")?))
+    Ok(Some(text(alloc, format_args!("expected {wanted}, found {found}"))?))
 }
 
 /// What is known of a rejected import.
@@ -49,7 +51,7 @@ fn of_import(
     contents: &Contents,
     import: &Import,
     fault: LinkFault,
-) -> Result<Option<String>, AllocError> {
+) -> Result<Option<String>, RefusedMemory> {
     match fault {
         LinkFault::Name => Ok(Some(offered(alloc)?)),
         LinkFault::BadType => match Call::from_name(import.name.as_slice()) {
@@ -60,7 +62,7 @@ fn of_import(
             ),
             None => Ok(None),
         },
-        _ => Ok(Some(String::from_str(alloc, DEFINED)?)),
+        _ => Ok(Some(text(alloc, DEFINED)?)),
     }
 }
 
@@ -69,7 +71,7 @@ fn of_export(
     alloc: Global,
     contents: &Contents,
     export: &ModuleExport,
-) -> Result<Option<String>, AllocError> {
+) -> Result<Option<String>, RefusedMemory> {
     let Some(entry) = EntryPoint::from_name(export.name.as_slice()) else {
         return Ok(None);
     };
@@ -78,7 +80,7 @@ fn of_export(
         return compared(alloc, wanted, type_of_function(contents, export.index));
     }
     let wanted = SpelledType::new(wanted.params, wanted.results);
-    Ok(Some(format!(in alloc; "expected a function of type {wanted}")?))
+    Ok(Some(text(alloc, format_args!("expected a function of type {wanted}"))?))
 }
 
 /// Whether so many elements or bytes from this offset on end beyond the room, and where.
@@ -91,12 +93,13 @@ fn end_behind(room: u64, offset: &Initializer, count: usize) -> Option<u64> {
 }
 
 /// The first element segment that ends beyond the table.
-fn of_elements(alloc: Global, contents: &Contents) -> Result<Option<String>, AllocError> {
+fn of_elements(alloc: Global, contents: &Contents) -> Result<Option<String>, RefusedMemory> {
     let room = contents.table.map_or(0, |limits| u64::from(limits.min));
     for (number, element) in contents.elements.as_slice().iter().enumerate() {
         if let Some(end) = end_behind(room, &element.offset, element.functions.len()) {
-            return Ok(Some(format!(in alloc;
-                "segment {number} ends at {end}; initial table elements: {room}"
+            return Ok(Some(text(
+                alloc,
+                format_args!("segment {number} ends at {end}; initial table elements: {room}"),
             )?));
         }
     }
@@ -104,27 +107,28 @@ fn of_elements(alloc: Global, contents: &Contents) -> Result<Option<String>, All
 }
 
 /// The first data segment that ends beyond the memory.
-fn of_data(alloc: Global, contents: &Contents) -> Result<Option<String>, AllocError> {
+fn of_data(alloc: Global, contents: &Contents) -> Result<Option<String>, RefusedMemory> {
     let pages = contents.memory.map_or(0, |limits| u64::from(limits.min));
     let room = pages.saturating_mul(PAGE_SIZE as u64);
     for (number, segment) in contents.data.as_slice().iter().enumerate() {
         if let Some(end) = end_behind(room, &segment.offset, segment.bytes.len()) {
-            return Ok(Some(format!(in alloc;
-                "segment {number} ends at {end}; initial memory bytes: {room}"
+            return Ok(Some(text(
+                alloc,
+                format_args!("segment {number} ends at {end}; initial memory bytes: {room}"),
             )?));
         }
     }
     Ok(None)
 }
 
-/// The rejected part of the module, and what is known of it. (The names of a decoded module are UTF-8, so that only an allocation can fail.)
+/// The rejected part of the module, and what is known of it.
 fn part_of(
     alloc: Global,
     bytes: &[u8],
     contents: &Contents,
     site: UnlinkedPart,
     fault: LinkFault,
-) -> Result<(Option<Place>, Option<String>), AllocError>
+) -> Result<(Option<Place>, Option<String>), RefusedMemory>
     ensures { IfOk result (λ found. IfSome found.0 (IsPlaceOfMisfit bytes.now contents.now site)) }
 {
     match site {
@@ -133,14 +137,16 @@ fn part_of(
                 return Ok((None, None));
             };
             let (module, name) = (import.module.as_slice(), import.name.as_slice());
-            let place = Place::import(alloc, number, module, name).ok_or(AllocError)?;
+            let place = import_place(alloc, number, module, name)?;
             Ok((Some(place), of_import(alloc, contents, import, fault)?))
         }
         UnlinkedPart::Export(number) => {
             let Some(export) = contents.exports.get(number) else {
                 return Ok((None, None));
             };
-            let place = Place::export(alloc, export.name.as_slice()).ok_or(AllocError)?;
+            let place = Place::Export {
+                name: export_name(alloc, export.name.as_slice())?,
+            };
             Ok((Some(place), of_export(alloc, contents, export)?))
         }
         UnlinkedPart::Elements => {
@@ -158,13 +164,11 @@ pub fn unlinked(
     alloc: Global,
     bytes: &[u8],
     fault: LinkFault,
-) -> Result<Option<Finding>, AllocError>
+) -> Result<Option<Finding>, RefusedMemory>
     ensures { IfOk result (λ found. IfSome found (λ it. IsToldOf (Link fault) bytes.now it.place it.defect)) }
 {
-    let valid = match validated(alloc, bytes) {
-        Ok(valid) => valid,
-        Err(Refusal::Memory) => return Err(AllocError),
-        Err(_) => return Ok(None),
+    let Some(valid) = validated(alloc, bytes)? else {
+        return Ok(None);
     };
     let Some(site) = refused_at(&valid) else {
         return Ok(None);

@@ -2,6 +2,7 @@
 use Rattle.wasmloop_c.proofs.Names.{ap, arith, Core, counted_on, Desk, desk_calls, Did, ends_turn, false, HeldLoop, inl, inr, length, List, LoopStage, NoneEnds}
 use Rattle.wasmloop_c.proofs.Names.{OK, one_if, RAN, ran_in, refl, SliceEnd, Some, StepBegins, StepGoesOn, StepIsTaken, StepSlice, StepsNumbered, subst, sym}
 use Rattle.wasmloop_c.proofs.Names.{None, TakesSteps, true, Turned, Turning, used_in, ℕ, [], ◌*◌, ◌+◌, ◌<◌, ◌==◌, ◌∙◌, ◌∷◌, ◌≡◌, ◌≤◌, ◌⊎◌}
+use Rattle.limits.specs.declared.TheConstants.{MAX_BYTES}
 use Rattle.interp.specs.declared.paused.TheConstants.{UNIT_BYTES}
 use Rattle.events.specs.declared.did.StepDid.{StepDid}
 use Rattle.events.specs.declared.did.StepDid.TheVariants as step_did
@@ -10,8 +11,13 @@ use Rattle.phases.specs.Underway.{StepInSlices, StepHasCome, used_by_step}
 use Rattle.phases.specs.declared.slices.StepSlice.TheVariants as slice
 use Rattle.wasmloop_c.specs.Calls.{core_in}
 use Rattle.wasmloop_c.specs.Numbers.{did_of}
-use Rattle.wasmloop_c.specs.StepSlices.{LeftByStep, RunsStep, step_held}
-use Rattle.wasmloop_c.specs.TurnSlices.{LoopIsAt, bytes_before, bytes_in, SliceEnds, SliceGoesOn, StepIsUnderway, TakesSlices, TurnsStage, WaitsFor, counted_for, fuel_in, last_did, IsRefusal}
+use Rattle.std.specs.Prelude.{Result, Ok, Err}
+use Rattle.order.specs.declared.reserving.RefusedMemory.{RefusedMemory}
+use Rattle.wasmloop_c.specs.Statuses.{OnlyRefused, status_in}
+use Rattle.wasmloop_c.specs.StepSlices.{LeftByStep, RunsStep, answer_of, step_held}
+use Rattle.wasmloop_c.specs.declared.step_slices.NoSlice.{NoSlice}
+use Rattle.wasmloop_c.specs.declared.step_slices.NoSlice.TheVariants as none
+use Rattle.wasmloop_c.specs.TurnSlices.{LoopIsAt, bytes_before, bytes_in, used_before, SliceEnds, SliceGoesOn, StepIsUnderway, TakesSlices, TurnsStage, WaitsFor, counted_for, fuel_in, last_did, IsRefusal}
 use Rattle.wasmloop_c.specs.Turning.{counted_after}
 use Rattle.wasmloop_c.specs.declared.step_slices.SliceEnd.TheVariants as end
 use Rattle.wasmloop_c.specs.declared.thing.LoopStage.TheVariants as stage
@@ -19,8 +25,8 @@ use Rattle.wasmloop_c.specs.declared.turn_slices.TurnLeft.{TurnLeft}
 use Rattle.wasmloop_c.proofs.Turning.{one_more_may}
 
 -- where a loop is between two steps
-core_is : (left : LoopStage) (d : Core Desk) → core_in left ≡ Some d → (used_in left ≡ 0) × LoopIsAt d left
-core_is (stage.Resting held) d is = (refl, cc)
+core_is : (left : LoopStage) (d : Core Desk) → core_in left ≡ Some d → (used_in left ≡ 0) × LoopIsAt d left × (bytes_in left ≡ 0)
+core_is (stage.Resting held) d is = (refl, cc, refl)
 core_is (stage.Stepping held) d is = absurd cc
 core_is stage.Gone d is = absurd cc
 
@@ -46,6 +52,7 @@ pub record Part (from : LoopStage) (units : ℕ) (left : LoopStage) : Type 0 whe
   pub some : used_in from < used_in left
   pub most : used_in left ≤ used_in from + units
   pub all : UNIT_BYTES * (used_in from + units) + bytes_in from ≤ UNIT_BYTES * used_in left + bytes_in left
+  pub few : MAX_BYTES * used_in from + bytes_in left ≤ MAX_BYTES * used_in left + bytes_in from
 
 -- What a slice of a step means that stands there after it has begun, where the step began on a loop that is there.
 module _ (from : LoopStage) (s : StepInSlices Desk) (units : ℕ) (left : LoopStage)
@@ -72,6 +79,7 @@ module _ (from : LoopStage) (s : StepInSlices Desk) (units : ℕ) (left : LoopSt
         some = grind (arith, used, goes.some, there.0, enough);
         most = omega (arith, used, goes.most, there.0);
         all = omega (arith, used, copied, goes.all, there.0, there.1);
+        few = omega (arith, used, copied, goes.few, there.0, there.1);
       }
 
 -- a step that is over at once has used nothing
@@ -100,7 +108,7 @@ over (stage.Resting held) units left did (inl (slice.Over d told, it, begins, go
     at_once held d told units left did begins (subst (λ (x : StepSlice Desk). LeftByStep x left (end.Over did)) goes lefts)
 over (stage.Resting held) units left did (inl (slice.Paused s, it, begins, goes, lefts)) =
     whole (stage.Resting held) s units left (λ c at. subst (λ (x : Core Desk). StepHasCome desk_calls x s) at begins.0) (sym begins.1) (sym begins.2) it did goes lefts
-over (stage.Resting held) units left did (inr (same, not)) = absurd cc
+over (stage.Resting held) units left did (inr (it, same, not)) = absurd cc
 over (stage.Stepping held) units left did (it, goes, lefts) = whole (stage.Stepping held) held.step units left (λ c at. at) refl refl it did goes lefts
 over stage.Gone units left did (same, not) = absurd cc
 
@@ -115,20 +123,23 @@ paused (stage.Resting held) units left enough (inl (slice.Over d told, it, begin
     absurd (at_end d told left (subst (λ (x : StepSlice Desk). LeftByStep x left end.Paused) goes lefts))
 paused (stage.Resting held) units left enough (inl (slice.Paused s, it, begins, goes, lefts)) =
     part (stage.Resting held) s units left (λ c at. subst (λ (x : Core Desk). StepHasCome desk_calls x s) at begins.0) (sym begins.1) (sym begins.2) enough it goes lefts
-paused (stage.Resting held) units left enough (inr (same, not)) = absurd cc
+paused (stage.Resting held) units left enough (inr (it, same, not)) = absurd cc
 paused (stage.Stepping held) units left enough (it, goes, lefts) = part (stage.Stepping held) held.step units left (λ c at. at) refl refl enough it goes lefts
 paused stage.Gone units left enough (same, not) = absurd cc
 
 -- no slice
-no_end : (it : StepSlice Desk) (left : LoopStage) (status : ℕ) → LeftByStep it left (end.Refused status) → ⊥
-no_end (slice.Over d told) left status (is, same) = cc
-no_end (slice.Paused t) left status (is, same) = cc
+no_end : (it : StepSlice Desk) (left : LoopStage) (why : NoSlice) → LeftByStep it left (end.Refused why) → ⊥
+no_end (slice.Over d told) left why (is, same) = cc
+no_end (slice.Paused t) left why (is, same) = cc
 
-pub refused : (from : LoopStage) (units : ℕ) (left : LoopStage) (status : ℕ) → RunsStep from units left (end.Refused status) → (left ≡ from) × IsRefusal from status
-refused (stage.Resting held) units left status (inl (first, it, begins, goes, lefts)) = absurd (no_end it left status lefts)
-refused (stage.Resting held) units left status (inr (same, why)) = (same, cc)
-refused (stage.Stepping held) units left status (it, goes, lefts) = absurd (no_end it left status lefts)
-refused stage.Gone units left status (same, why) = (same, cc)
+pub refused : (from : LoopStage) (units : ℕ) (left : LoopStage) (why : NoSlice) → RunsStep from units left (end.Refused why)
+    → (left ≡ from) × IsRefusal from (status_in (answer_of why))
+refused (stage.Resting held) units left why (inl (first, it, begins, goes, lefts)) = absurd (no_end it left why lefts)
+refused (stage.Resting held) units left (none.Memory memory) (inr (it, same, is)) = (same, refl)
+refused (stage.Resting held) units left none.Gone (inr (it, same, is)) = absurd cc
+refused (stage.Stepping held) units left why (it, goes, lefts) = absurd (no_end it left why lefts)
+refused stage.Gone units left (none.Memory memory) (same, is) = absurd cc
+refused stage.Gone units left none.Gone (same, is) = (same, refl)
 
 -- a loop that has taken a step is between two steps
 rests_at : (left : LoopStage) (d : Core Desk) → core_in left ≡ Some d → LoopIsAt d left
@@ -249,6 +260,7 @@ module _ (from : LoopStage) (most units : ℕ) (old : Did) where
     within = omega (arith, p.fuel);
     some = inl (λ none. later (sym p.many ∙ ap (λ (xs : List Did). length xs) none));
     all = λ none. let rests = p.rests (λ empty. later (sym p.many ∙ ap (λ (xs : List Did). length xs) empty)) in absurd cc;
+    few = λ none. let rests = p.rests (λ empty. later (sym p.many ∙ ap (λ (xs : List Did). length xs) empty)) in absurd cc;
   }
 
   module _ (count : ℕ) (turn to : Turning) (was did : Did) (s : Sliced count turn was) where
@@ -269,6 +281,7 @@ module _ (from : LoopStage) (most units : ℕ) (old : Did) where
           within = omega (arith, taken.left, taken.rests, p.fuel);
           some = inl (λ none. absurd cc);
           all = λ none. let rests = one.1 in absurd cc;
+          few = λ none. let rests = one.1 in absurd cc;
         }
 
     some_used : (before : List Did) → length before ≡ count → StepIsUnderway turn to → (before ≡ [] → ⊥) ⊎ (used_in from < used_in to.stage)
@@ -284,6 +297,15 @@ module _ (from : LoopStage) (most units : ℕ) (old : Did) where
         let same : bytes_in turn.stage ≡ bytes_in from = ap bytes_in first.0 in
         omega (arith, under.all, same, fuel)
     all_used (x ∷ xs) many under fuel = omega (arith, under.all, fuel)
+
+    few_copied : (e : Core Desk) (before : List Did) → length before ≡ count → ((before ≡ [] → ⊥) → core_in turn.stage ≡ Some e) → StepIsUnderway turn to
+        → MAX_BYTES * used_before from before + bytes_in to.stage ≤ MAX_BYTES * used_in to.stage + bytes_before from before
+    few_copied e [] many rests under =
+        let first = s.first (sym many) in
+        subst (λ (it : LoopStage). MAX_BYTES * used_in it + bytes_in to.stage ≤ MAX_BYTES * used_in to.stage + bytes_in it) first.0 under.few
+    few_copied e (x ∷ xs) many rests under =
+        let none = core_is turn.stage e (rests (λ empty. absurd cc)) in
+        omega (arith, under.few, none.0, none.2)
 
     paused_in : StepIsUnderway turn to → did ≡ was → (c : Core Desk) → LoopIsAt c from
         → SliceGoesOn c from units most old did to.ran to.stage
@@ -301,6 +323,7 @@ module _ (from : LoopStage) (most units : ℕ) (old : Did) where
           within = omega (arith, p.fuel, under.most);
           some = some_used p.before p.many under;
           all = λ none. all_used p.before p.many under p.fuel;
+          few = λ none. few_copied p.e p.before p.many p.rests under;
         }
 
     pub pauses : (StepIsTaken turn did to × (ends_turn most turn.ran did ≡ false)) ⊎ (StepIsUnderway turn to × (did ≡ was))
@@ -325,7 +348,7 @@ pub taken : (from to : Turning) (did : Did) → Whole from.stage from.left to.st
 taken from to did w ran left = record { steps = w.steps; ran = ran; left = left; rests = w.rests }
 
 pub under_way : (from to : Turning) → Part from.stage from.left to.stage → to.ran ≡ from.ran → StepIsUnderway from to
-under_way from to p ran = record { stands = p.stands; ran = ran; some = p.some; most = p.most; all = p.all }
+under_way from to p ran = record { stands = p.stands; ran = ran; some = p.some; most = p.most; all = p.all; few = p.few }
 
 pub may_go_on : (did : Did) (most ran : ℕ) → ran < most → ends_turn most ran did ≡ false → ran + one_if (did.what == RAN) < most
 may_go_on did most ran less goes_on = one_more_may (did.what == RAN) _ _ _ most ran less goes_on
@@ -336,9 +359,9 @@ refusal_is (stage.Resting held) status is ok = absurd cc
 refusal_is (stage.Stepping held) status is ok = absurd is
 refusal_is stage.Gone status is ok = absurd cc
 
-pub turns : (from : LoopStage) (before after most units was : ℕ) (old told : Turned) (it : TurnLeft) → it.status ≡ OK
+pub turns : (from : LoopStage) (before after most units was : ℕ) (old told : Turned) (it : TurnLeft) → status_in it.status ≡ OK
     → TakesSlices from most units old.did told.did it → told.callbacks ≡ counted_on before it.ran → after ≡ counted_for it.over told
-    → WaitsFor it told.did told.callbacks told.wait → told.zero ≡ 0 → TurnsStage from before it.stage after most units was it.over old told it.status
+    → WaitsFor it told.did told.callbacks told.wait → told.zero ≡ 0 → TurnsStage from before it.stage after most units was it.over old told (status_in it.status)
 turns from before after most units was old told it ok (inl h) callbacks kept waits zero = inl (
   ok,
   h.1,
@@ -354,10 +377,20 @@ turns from before after most units was old told it ok (inr (inl h)) callbacks ke
       let counted : after ≡ told.callbacks = subst (λ (n : ℕ). after ≡ counted_for n told) h.1 kept in
       record { ran = it.ran; slice = h.2 c at; callbacks = callbacks; kept = counted; wait = waits.1 h.1; zero = zero },
 ))
-turns from before after most units was old told it ok (inr (inr h)) callbacks kept waits zero = absurd (refusal_is from it.status h.0 ok)
+turns from before after most units was old told it ok (inr (inr h)) callbacks kept waits zero = absurd (refusal_is from (status_in it.status) h.0 ok)
 
-pub no_turn : (from : LoopStage) (before most units was : ℕ) (old told : Turned) (it : TurnLeft) → (it.status ≡ OK → ⊥)
-    → TakesSlices from most units old.did told.did it → (told.did ≡ old.did → told ≡ old) → TurnsStage from before it.stage before most units was was old told it.status
+pub no_turn : (from : LoopStage) (before most units was : ℕ) (old told : Turned) (it : TurnLeft) → (status_in it.status ≡ OK → ⊥)
+    → TakesSlices from most units old.did told.did it → (told.did ≡ old.did → told ≡ old) → TurnsStage from before it.stage before most units was was old told (status_in it.status)
 no_turn from before most units was old told it not (inl h) same = absurd (not h.0)
 no_turn from before most units was old told it not (inr (inl h)) same = absurd (not h.0)
 no_turn from before most units was old told it not (inr (inr h)) same = inr (inr (h.0, h.1, refl, refl, same h.2))
+
+-- What is done is not told as refused.
+ok_only : (answer : Result ℕ RefusedMemory) → status_in answer ≡ OK → OnlyRefused answer
+ok_only (Ok status) is = λ memory. cc
+ok_only (Err refused) is = tt
+
+pub only : (from : LoopStage) (most units : ℕ) (old did : Did) (it : TurnLeft) → TakesSlices from most units old did it → OnlyRefused it.status
+only from most units old did it (inl h) = ok_only it.status h.0
+only from most units old did it (inr (inl h)) = ok_only it.status h.0
+only from most units old did it (inr (inr h)) = h.3

@@ -1,6 +1,8 @@
 -- What a slice does to the call of the instance that its handle has.
-use Rattle.std.specs.Prelude.{◌≡◌, ◌⊎◌, ℕ, List, Option, Some, None, IsSomeAnd}
+use Rattle.std.specs.Prelude.{◌≡◌, ◌<◌, ◌⊎◌, ℕ, List, length, Option, Some, None, IsSomeAnd}
+use Rattle.syntax.specs.declared.contents.FuncType.{FuncType}
 use Rattle.syntax.specs.declared.types.Value.{Value}
+use Rattle.validate.specs.Typing.{HasFunctionType}
 use Rattle.resident.specs.Calls.{KeptInstance, ExportsFirst, ExportsNoFunction}
 use Rattle.resident.specs.Underway.{CallUnderway, HasCome, used_by}
 use Rattle.resident.specs.Slices.{CallGoesOn, EndsCall}
@@ -12,6 +14,7 @@ use Rattle.wasmloop_c.specs.Instances.{TakesNumbers, IsNoCall, OnInstance}
 use Rattle.wasmloop_c.specs.Values.{call_numbers}
 use Rattle.wasmloop_c.specs.declared.ended.CallEnded.{CallEnded}
 use Rattle.wasmloop_c.specs.declared.instances.CallLimits.{CallLimits}
+use Rattle.wasmloop_c.specs.declared.instances.TheConstants.{FEW}
 use Rattle.wasmloop_c.specs.declared.status.TheConstants.{OK, KIND}
 use Rattle.wasmloop_c.specs.declared.thing.Thing.{Thing}
 use Rattle.wasmloop_c.specs.declared.thing.InstanceStage.{InstanceStage}
@@ -28,11 +31,19 @@ BeginsNamed a name numbers limits c =
     (function : ℕ) × (args : List Value) × TakesNumbers a (ExportsFirst a.loaded.contents name) numbers function args
     × HasCome a limits.depth limits.fuel function args c × (used_by c ≡ 0)
 
--- A call by name begins. Where it doesn't, nothing changes. (It always takes memory.)
+-- one that is meant takes more than FEW arguments: to begin a call of any other takes no memory
+pub record TakesMany (a : KeptInstance) (IsMeant : ℕ → Type 0) : Type 0 where
+  pub function : ℕ
+  pub type : FuncType
+  pub meant : IsMeant function
+  pub typed : HasFunctionType a.loaded.contents function type
+  pub many : FEW < length type.params
+
+-- A call by name begins. Where it doesn't, nothing changes.
 abbrev pub BeginsStage : (old new : InstanceStage) → (name numbers : List ℕ) → CallLimits → (status : ℕ) → Type 0
 BeginsStage (stage.Resident a) new name numbers limits status =
     ((status ≡ OK) × IsSomeAnd (calling_in new) (BeginsNamed a name numbers limits))
-    ⊎ (IsNoCall a (ExportsNoFunction a.loaded.contents name) (ExportsFirst a.loaded.contents name) (Unit {0}) numbers status × (new ≡ stage.Resident a))
+    ⊎ (IsNoCall a (ExportsNoFunction a.loaded.contents name) (ExportsFirst a.loaded.contents name) (TakesMany a (ExportsFirst a.loaded.contents name)) numbers status × (new ≡ stage.Resident a))
 BeginsStage other new name numbers limits status = (status ≡ KIND) × (new ≡ other)
 
 abbrev pub BeginsCall : (old new : Thing) → (name numbers : List ℕ) → CallLimits → (status : ℕ) → Type 0

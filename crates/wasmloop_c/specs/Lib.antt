@@ -8,6 +8,7 @@ pub mod Values
 pub mod Inspecting
 pub mod Exports
 pub mod FirstSlices
+pub mod Holding
 pub mod Instances
 pub mod Kinds
 pub mod Signatures

@@ -1,5 +1,5 @@
 -- The numbers of the statuses, as wasmloop.h has them.
-use Rattle.std.specs.Prelude.{◌≡◌}
+use Rattle.std.specs.Prelude.{◌≡◌, ◌≢◌, ℕ, Result, Ok, Err, IfOk}
 use Rattle.wasmloop_c.specs.declared.status.TheConstants.{OK, NONE, EMPTY, KIND, MEMORY, REFUSED, RANGE, STRANGER, USED_UP, NO_WORK, NOT_STARTED, ARGUMENTS}
 
 pub record AreStatuses : Type 0 where
@@ -15,3 +15,12 @@ pub record AreStatuses : Type 0 where
   pub no_work : NO_WORK ≡ 10
   pub not_started : NOT_STARTED ≡ 11
   pub arguments : ARGUMENTS ≡ 12
+
+-- what C is answered: MEMORY where memory was refused, which the error shows
+abbrev pub status_in : {E : Type 0} → Result ℕ E → ℕ
+status_in (Ok status) = status
+status_in (Err refused) = MEMORY
+
+-- and nowhere else
+abbrev pub OnlyRefused : {E : Type 0} → Result ℕ E → Type 0
+OnlyRefused answer = IfOk answer (λ status. status ≢ MEMORY)

@@ -1,6 +1,7 @@
 -- What a slice does to the step of the loop that its handle has.
-use Rattle.std.specs.Prelude.{◌≡◌, ◌⊎◌, ℕ, length, Option, Some, None}
+use Rattle.std.specs.Prelude.{◌≡◌, ◌⊎◌, ℕ, length, Option, Some, None, Result, Ok, Err}
 use Rattle.desk.specs.Desk.{Desk, desk_calls}
+use Rattle.order.specs.declared.reserving.RefusedMemory.{RefusedMemory}
 use Rattle.phases.specs.Slices.{StepBegins, StepGoesOn}
 use Rattle.phases.specs.Underway.{StepInSlices}
 use Rattle.phases.specs.declared.slices.StepSlice.{StepSlice}
@@ -8,8 +9,11 @@ use Rattle.phases.specs.declared.slices.StepSlice.TheVariants.{Over, Paused}
 use Rattle.wasmloop_c.specs.Calls.{OnHandle, OnLoopStage, core_in}
 use Rattle.wasmloop_c.specs.Inner.Held.{IsStepOfLoop}
 use Rattle.wasmloop_c.specs.Numbers.{did_of}
+use Rattle.wasmloop_c.specs.Statuses.{status_in}
 use Rattle.wasmloop_c.specs.declared.did.Did.{Did}
-use Rattle.wasmloop_c.specs.declared.status.TheConstants.{OK, KIND, MEMORY}
+use Rattle.wasmloop_c.specs.declared.status.TheConstants.{OK, KIND}
+use Rattle.wasmloop_c.specs.declared.step_slices.NoSlice.{NoSlice}
+use Rattle.wasmloop_c.specs.declared.step_slices.NoSlice.TheVariants as none
 use Rattle.wasmloop_c.specs.declared.step_slices.SliceEnd.{SliceEnd}
 use Rattle.wasmloop_c.specs.declared.step_slices.SliceEnd.TheVariants as end
 use Rattle.wasmloop_c.specs.declared.thing.Thing.{Thing}
@@ -26,6 +30,11 @@ abbrev pub IsOfLoop : (number : ℕ) → StepSlice Desk → Type 0
 IsOfLoop number (Over d did) = d.setting.loop_no ≡ number
 IsOfLoop number (Paused s) = ∥ IsStepOfLoop number s ∥₁
 
+-- what C is answered where there is no slice
+abbrev pub answer_of : NoSlice → Result ℕ RefusedMemory
+answer_of (none.Memory refused) = Err refused
+answer_of none.Gone = Ok KIND
+
 -- what is left of a loop after a slice of its step, and what that has come to
 abbrev pub LeftByStep : StepSlice Desk → LoopStage → SliceEnd → Type 0
 LeftByStep (Over d did) left told = (core_in left ≡ Some d) × (told ≡ end.Over (did_of did (length d.loop.state.emits)))
@@ -41,15 +50,15 @@ GoesOnFrom (Paused s) units slice = StepGoesOn desk_calls s units slice
 abbrev pub RunsStep : LoopStage → (units : ℕ) → LoopStage → SliceEnd → Type 0
 RunsStep (stage.Resting held) units left told =
     ((first : StepSlice Desk) × (slice : StepSlice Desk) × StepBegins desk_calls held.core first × GoesOnFrom first units slice × LeftByStep slice left told)
-    ⊎ ((left ≡ stage.Resting held) × (told ≡ end.Refused MEMORY))
+    ⊎ ((refused : RefusedMemory) × (left ≡ stage.Resting held) × (told ≡ end.Refused (none.Memory refused)))
 RunsStep (stage.Stepping held) units left told = (slice : StepSlice Desk) × StepGoesOn desk_calls held.step units slice × LeftByStep slice left told
-RunsStep stage.Gone units left told = (left ≡ stage.Gone) × (told ≡ end.Refused KIND)
+RunsStep stage.Gone units left told = (left ≡ stage.Gone) × (told ≡ end.Refused none.Gone)
 
 -- what C is told of a slice
 abbrev pub TellsSlice : SliceEnd → (was over : ℕ) → (before told : Did) → (status : ℕ) → Type 0
 TellsSlice (end.Over did) was over before told status = (status ≡ OK) × (over ≡ 1) × (told ≡ did)
 TellsSlice end.Paused was over before told status = (status ≡ OK) × (over ≡ 0) × (told ≡ before)
-TellsSlice (end.Refused why) was over before told status = (status ≡ why) × (over ≡ was) × (told ≡ before)
+TellsSlice (end.Refused why) was over before told status = (status ≡ status_in (answer_of why)) × (over ≡ was) × (told ≡ before)
 
 -- a slice of a step of the loop that a thing is, and of the one that a handle has
 abbrev pub StepsFor : (old new : Thing) → (units was over : ℕ) → (before told : Did) → (status : ℕ) → Type 0

@@ -1,9 +1,12 @@
 -- What a slice does to a turn of the loop that its handle has.
 use Rattle.std.specs.Prelude.{◌≡◌, ◌⊎◌, ◌≤◌, ◌<◌, ◌+◌, ◌-◌, ◌*◌, ◌^◌, ◌==◌, min, ℕ, true, false, List, [], ◌∷◌, Option, Some, None, if◌then◌else◌}
+use Rattle.limits.specs.declared.TheConstants.{MAX_BYTES}
 use Rattle.interp.specs.declared.paused.TheConstants.{UNIT_BYTES}
 use Rattle.desk.specs.Desk.{Desk, desk_calls}
 use Rattle.phases.specs.State.{Core}
 use Rattle.phases.specs.Underway.{StepHasCome, used_by_step}
+use Rattle.wasmloop_c.specs.Statuses.{OnlyRefused, status_in}
+use Rattle.wasmloop_c.specs.StepSlices.{answer_of}
 use Rattle.wasmloop_c.specs.Calls.{OnCounted, OnHandle, StepsNumbered, core_in, one_if}
 use Rattle.wasmloop_c.specs.Turning.{counted_after, ends_turn, ran_in, wait_after, NoneEnds, TakesSteps, TurnSteps}
 use Rattle.wasmloop_c.specs.declared.did.Did.{Did}
@@ -58,9 +61,14 @@ abbrev pub bytes_before : LoopStage → List Did → ℕ
 bytes_before from [] = bytes_in from
 bytes_before from (did ∷ before) = 0
 
+-- and the units that it had used before it
+abbrev pub used_before : LoopStage → List Did → ℕ
+used_before from [] = used_in from
+used_before from (did ∷ before) = 0
+
 -- One that doesn't: none of its whole steps ends the turn, and the loop stands where they have come to, in its next step or before it. It has
 -- taken a step, or its callback has used some units. Where it stands in a step, all its units are used, where each UNIT_BYTES that the callback
--- has copied in it count as one.
+-- has copied in it count as one, at most MAX_BYTES for each unit that it used.
 pub record SliceGoesOn (c : Core Desk) (from : LoopStage) (units most : ℕ) (old did : Did) (ran : ℕ) (left : LoopStage) : Type 0 where
   pub before : List Did
   pub e : Core Desk
@@ -74,6 +82,8 @@ pub record SliceGoesOn (c : Core Desk) (from : LoopStage) (units most : ℕ) (ol
   pub some : (before ≡ [] → ⊥) ⊎ (used_in from < used_in left)
   pub all : core_in left ≡ None
       → UNIT_BYTES * (used_in from + units) + bytes_before from before ≤ UNIT_BYTES * (fuel_in before + used_in left) + bytes_in left
+  pub few : core_in left ≡ None
+      → MAX_BYTES * used_before from before + bytes_in left ≤ MAX_BYTES * used_in left + bytes_before from before
 
 -- why nothing is done: no memory was found for a step that has not begun, or there is no loop. A step that is under way is never refused.
 abbrev pub IsRefusal : LoopStage → (status : ℕ) → Type 0
@@ -88,13 +98,15 @@ pub record StepIsTaken (from : Turning) (did : Did) (to : Turning) : Type 0 wher
   pub left : did.used + to.left ≡ used_in from.stage + from.left
   pub rests : used_in to.stage ≡ 0
 
--- A step is under way, or another slice of it: its callback has used some units more, and all where the bytes that it copied count too.
+-- A step is under way, or another slice of it: its callback has used some units more, and all where the bytes that it copied count too, at most
+-- MAX_BYTES for each unit.
 pub record StepIsUnderway (from to : Turning) : Type 0 where
   pub stands : (c : Core Desk) → LoopIsAt c from.stage → LoopIsAt c to.stage
   pub ran : to.ran ≡ from.ran
   pub some : used_in from.stage < used_in to.stage
   pub most : used_in to.stage ≤ used_in from.stage + from.left
   pub all : UNIT_BYTES * (used_in from.stage + from.left) + bytes_in from.stage ≤ UNIT_BYTES * used_in to.stage + bytes_in to.stage
+  pub few : MAX_BYTES * used_in from.stage + bytes_in to.stage ≤ MAX_BYTES * used_in to.stage + bytes_in from.stage
 
 -- what a slice of a step does to a turn of at most so many callbacks
 abbrev pub TakesSlice : Turning → (most : ℕ) → (old did : Did) → Turning → TurnFlow → Type 0
@@ -103,14 +115,14 @@ TakesSlice from most old did to flow.Over = StepIsTaken from did to × (ends_tur
 TakesSlice from most old did to flow.Paused =
     (StepIsTaken from did to × (ends_turn most from.ran did ≡ false))
     ⊎ (StepIsUnderway from to × (did ≡ old))
-TakesSlice from most old did to (flow.Refused status) = (to ≡ from) × (did ≡ old) × IsRefusal from.stage status
+TakesSlice from most old did to (flow.Refused why) = (to ≡ from) × (did ≡ old) × IsRefusal from.stage (status_in (answer_of why))
 
 -- what a slice leaves of a turn from a loop's stage, and of what the step before it did
 abbrev pub TakesSlices : LoopStage → (most units : ℕ) → (old did : Did) → TurnLeft → Type 0
 TakesSlices from most units old did it =
-    ((it.status ≡ OK) × (it.over ≡ 1) × ((c : Core Desk) → LoopIsAt c from → SliceEnds c (used_in from) units most did it.ran it.stage))
-    ⊎ ((it.status ≡ OK) × (it.over ≡ 0) × ((c : Core Desk) → LoopIsAt c from → SliceGoesOn c from units most old did it.ran it.stage))
-    ⊎ (IsRefusal from it.status × (it.stage ≡ from) × (did ≡ old))
+    ((status_in it.status ≡ OK) × (it.over ≡ 1) × ((c : Core Desk) → LoopIsAt c from → SliceEnds c (used_in from) units most did it.ran it.stage))
+    ⊎ ((status_in it.status ≡ OK) × (it.over ≡ 0) × ((c : Core Desk) → LoopIsAt c from → SliceGoesOn c from units most old did it.ran it.stage))
+    ⊎ (IsRefusal from (status_in it.status) × (it.stage ≡ from) × (did ≡ old) × OnlyRefused it.status)
 
 -- how long there is nothing to do: not at all while the turn isn't over
 abbrev pub WaitsFor : TurnLeft → Did → (callbacks wait : ℕ) → Type 0

@@ -3,14 +3,13 @@
 ghost use Rattle.std.specs.Prelude.{◌≡◌, ◌≤◌, [], length, vec_capacity, IfOk, IfErr};
 ghost use Rattle.std.specs.Arc.{arc_value};
 ghost use Rattle.limits.specs.declared.TheConstants.{MAX_BYTES};
-ghost use Rattle.order.specs.Uv.Bytes.{set_out};
 
-use imports::{Call, Linked};
+use imports::Linked;
 use instance::memory::Memory;
 use interp::host::{Args, Host};
 use limits::MAX_BYTES;
-use order::uv::answers::{INVALID, NOT_HERE, OUTSIDE_MEMORY};
-use order::uv::calls::{called, copy_in, three, two};
+use order::uv::answering::answered;
+use order::uv::calls::called;
 use std::alloc::{AllocError, Global};
 use std::mem::replace;
 use std::sync::Arc;
@@ -64,26 +63,6 @@ impl<'a> BytesHost<'a> {
         } = self;
         reply
     }
-
-    fn set_out(&mut self, place: u32, count: u32, memory: &mut Memory) -> u32
-        ensures answer { result ≡ (set_out place count memory.old.bytes self.old.reply.items).0 }
-        ensures reply { self.new.reply.items ≡ (set_out place count memory.old.bytes self.old.reply.items).1 }
-        ensures linked { arc_value self.new.linked ≡ arc_value self.old.linked }
-        ensures bytes { self.new.bytes.now ≡ self.old.bytes.now }
-        ensures memory { memory.new ≡ memory.old }
-    {
-        if count as usize > MAX_BYTES {
-            return INVALID;
-        }
-        let Some(bytes) = memory.read(place as usize, count as usize) else {
-            return OUTSIDE_MEMORY;
-        };
-        self.reply.clear();
-        let Ok(()) = self.reply.extend_from_slice(bytes) else {
-            unreachable!();
-        };
-        0
-    }
 }
 
 impl Host for BytesHost<'_> {
@@ -100,19 +79,8 @@ impl Host for BytesHost<'_> {
     }
 
     fn call(&mut self, import: u32, args: &Args, memory: &mut Memory) -> Option<Value> {
-        let answer = match called(&self.linked, import, args) {
-            Call::Now => Value::I64(u64::MAX),
-            Call::InLen => Value::I32(self.bytes.len() as u32),
-            Call::InCopy => {
-                let (to, from, count) = three(args);
-                Value::I32(copy_in(self.bytes, to, from, count, memory))
-            }
-            Call::OutSet => {
-                let (place, count) = two(args);
-                Value::I32(self.set_out(place, count, memory))
-            }
-            _ => Value::I32(NOT_HERE),
-        };
+        let call = called(&self.linked, import, args);
+        let answer = answered(call, args, self.bytes, &mut self.reply, memory);
         Some(answer)
     }
 }

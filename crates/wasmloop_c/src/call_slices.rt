@@ -1,26 +1,37 @@
 // Calls of an instance in slices.
 
-ghost use Rattle.std.specs.Prelude.{◌≡◌, ◌≤◌, ◌<◌, ◌⊎◌, ℕ, length};
+ghost use Rattle.std.specs.Prelude.{◌≡◌, ◌≤◌, ◌<◌, ◌⊎◌, ℕ, length, IsSomeAnd};
 ghost use Rattle.limits.specs.declared.TheConstants.{MAX_DEPTH};
 ghost use Rattle.syntax.specs.declared.contents.Contents.{Contents};
 ghost use Rattle.interp.specs.Lent.{result_count};
+ghost use Rattle.reduction.specs.Invoking.{TakesArguments};
 ghost use Rattle.resident.specs.Bare.{whole_going};
 ghost use Rattle.resident.specs.Slices.{CallGoesOn};
+ghost use Rattle.resident.specs.Underway.{HasCome, used_by};
 ghost use Rattle.resident.specs.declared.calling.Going.{Going as Slice};
-ghost use Rattle.wasmloop_c.specs.CallSlices.{BeginsCall, BeginsHeldCall, BeginsStage, EndsCallOf, EndsHeldCall, EndsStage, LeftByCall, RunsCall, RunsHeldCall, RunsStage};
+ghost use Rattle.wasmloop_c.specs.CallSlices.{BeginsCall, BeginsHeldCall, BeginsStage, EndsCallOf, EndsHeldCall, EndsStage, LeftByCall, RunsCall, RunsHeldCall, RunsStage, calling_in};
 ghost use Rattle.wasmloop_c.specs.declared.thing.InstanceStage.TheVariants as stage;
 
 use crate::checked::CheckedLimits;
-use crate::ended::CallEnded;
+use crate::ended::{CallEnded, are_as_many, lay};
 use crate::handle::{Handle, on};
-use crate::instances::{CallLimits, named};
-use crate::status::{KIND, OK, RANGE};
+use crate::instances::{CallLimits, FEW, arguments};
+use crate::status::{ARGUMENTS, KIND, NONE, OK, RANGE};
 use crate::thing::{InstanceStage, Thing};
 use resident::{BareGoing, Calling, Going, Resident};
 use std::alloc::Global;
 use std::mem::replace;
 use syntax::types::Value;
 
+fn begun(resident: Resident, function: u32, args: &[Value], limits: CheckedLimits) -> InstanceStage
+    requires { TakesArguments resident.loaded.contents function args.now }
+    ensures { IsSomeAnd (calling_in result) (λ c. HasCome resident limits.depth limits.fuel function args.now c × (used_by c ≡ 0)) }
+{
+    InstanceStage::Calling(resident.begin(function, args, limits.fuel(), limits.depth()))
+}
+
+/// Begins a call of the function of this name. Where it has few arguments, as most have, no memory is taken.
+#[tactic(auto, using(crate::proofs::ValuesRead::takes))]
 fn begin_on(
     alloc: Global,
     resident: Resident,
@@ -30,12 +41,26 @@ fn begin_on(
 ) -> (InstanceStage, u32)
     ensures { BeginsStage (stage.Resident resident) result.0 name.now numbers.now limits result.1 }
 {
-    let (function, args) = match named(alloc, &resident, name, numbers) {
-        Ok(found) => found,
-        Err(status) => return (InstanceStage::Resident(resident), status),
+    let Some((function, func_type)) = resident.function(name) else {
+        return (InstanceStage::Resident(resident), NONE);
     };
-    let call = resident.begin(function, args.as_slice(), limits.fuel(), limits.depth());
-    (InstanceStage::Calling(call), OK)
+    let types = func_type.params.as_slice();
+    if !are_as_many(types, numbers) {
+        return (InstanceStage::Resident(resident), ARGUMENTS);
+    }
+    if types.len() > FEW {
+        let args = match arguments(alloc, types, numbers) {
+            Ok(args) => args,
+            Err(status) => return (InstanceStage::Resident(resident), status),
+        };
+        return (begun(resident, function, args.as_slice(), limits), OK);
+    }
+    let mut room = [Value::I32(0); FEW];
+    let args = &mut room[..types.len()];
+    if !lay(types, numbers, args) {
+        return (InstanceStage::Resident(resident), ARGUMENTS);
+    }
+    (begun(resident, function, args, limits), OK)
 }
 
 fn begin_stage(
@@ -99,7 +124,7 @@ fn paused_in(call: Calling, over: &mut u32) -> InstanceStage
 }
 
 /// What a slice leaves of a call.
-pub fn left_by(going: Going, over: &mut u32, told: &mut CallEnded) -> InstanceStage
+fn left_by(going: Going, over: &mut u32, told: &mut CallEnded) -> InstanceStage
     ensures { LeftByCall going result over.new told.old told.new }
 {
     match going {
@@ -133,6 +158,16 @@ pub fn left_in(
     }
 }
 
+/// A slice of a call, however many results its function has. Out of line: so the slices of most calls fill no room for so many.
+#[cold]
+#[inline(never)]
+pub fn run_any(call: Calling, units: u64, over: &mut u32, told: &mut CallEnded) -> InstanceStage
+    requires { 1 ≤ units }
+    ensures { (going : Slice) × CallGoesOn call units going × LeftByCall going result over.new told.old told.new }
+{
+    left_by(call.go_on(units), over, told)
+}
+
 /// A slice of a call. Where its function has at most one result, as most have, no room for more is filled.
 fn run_call(call: Calling, units: u64, over: &mut u32, told: &mut CallEnded) -> InstanceStage
     requires { 1 ≤ units }
@@ -140,7 +175,7 @@ fn run_call(call: Calling, units: u64, over: &mut u32, told: &mut CallEnded) -> 
 {
     let count = call.results();
     if count > 1 {
-        return left_by(call.go_on(units), over, told);
+        return run_any(call, units, over, told);
     }
     let mut one = [Value::I32(0)];
     let results = &mut one[..count];

@@ -5,8 +5,8 @@ ghost use Rattle.wasmloop_c.specs.Numbers.{stage_number, code_number};
 
 use loader::Refusal;
 use places::{Part, Place};
-use sentences::try_explain;
-use std::alloc::{AllocError, Global};
+use sentences::{RefusedMemory, text, try_explain};
+use std::alloc::Global;
 
 /// Why bytes are no guest, and where.
 #[repr(C)]
@@ -130,7 +130,7 @@ impl Fault {
     }
 
     /// Why these bytes are refused, and where, as far as that is known.
-    pub fn new(alloc: Global, refusal: Refusal, bytes: &[u8]) -> Result<Fault, AllocError>
+    pub fn new(alloc: Global, refusal: Refusal, bytes: &[u8]) -> Result<Fault, RefusedMemory>
         ensures { IfOk result (λ fault. (fault.stage ≡ stage_number refusal) × (fault.code ≡ code_number refusal)) }
     {
         let place = try_explain(refusal, alloc, bytes)?.place;
@@ -142,13 +142,11 @@ impl Fault {
         alloc: Global,
         refusal: Refusal,
         bytes: &[u8],
-    ) -> Result<(Fault, String), AllocError>
+    ) -> Result<(Fault, String), RefusedMemory>
         ensures { IfOk result (λ told. (told.0.stage ≡ stage_number refusal) × (told.0.code ≡ code_number refusal)) }
     {
         let account = try_explain(refusal, alloc, bytes)?;
-        let Ok(text) = format!(in alloc; "{account}") else {
-            return Err(AllocError);
-        };
+        let text = text(alloc, &account)?;
         Ok((Fault::nowhere(refusal).with_place(account.place), text))
     }
 }

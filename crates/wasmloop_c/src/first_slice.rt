@@ -8,7 +8,7 @@ ghost use Rattle.reduction.specs.Invoking.{TakesArguments};
 ghost use Rattle.wasmloop_c.specs.FirstSlices.{CallsFor, CallsForHeld, CallsForStage, SlicesFirst};
 ghost use Rattle.wasmloop_c.specs.declared.thing.InstanceStage.TheVariants as stage;
 
-use crate::call_slices::{left_by, left_in};
+use crate::call_slices::{left_in, run_any};
 use crate::checked::CheckedLimits;
 use crate::ended::{CallEnded, are_as_many, lay};
 use crate::handle::{Handle, on};
@@ -87,7 +87,7 @@ fn call_for_on(
         };
         let limits = slice.limits;
         let call = resident.begin(function, args.as_slice(), limits.fuel(), limits.depth());
-        return (left_by(call.go_on(slice.units), over, told), OK);
+        return (run_any(call, slice.units, over, told), OK);
     }
     let mut room = [Value::I32(0); FEW];
     let args = &mut room[..types.len()];

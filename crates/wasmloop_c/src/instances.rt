@@ -122,25 +122,6 @@ pub fn arguments(alloc: Global, types: &[ValType], numbers: &[u64]) -> Result<Ve
     }
 }
 
-/// The function of this name with these arguments, or the status that says why there is no such call.
-#[tactic(auto, using(crate::proofs::ValuesRead::takes))]
-pub fn named(
-    alloc: Global,
-    resident: &Resident,
-    name: &[u8],
-    numbers: &[u64],
-) -> Result<(u32, Vec<Value>), u32>
-    ensures named { IfOk result (λ found. TakesNumbers resident.now (ExportsFirst resident.now.loaded.contents name.now) numbers.now found.0 found.1.items) }
-    ensures typed { IfOk result (λ found. TakesArguments resident.now.loaded.contents found.0 found.1.items) }
-    ensures refused { IfErr result (IsNoCall resident.now (ExportsNoFunction resident.now.loaded.contents name.now) (ExportsFirst resident.now.loaded.contents name.now) (Unit {0}) numbers.now) }
-{
-    let Some((function, func_type)) = resident.function(name) else {
-        return Err(NONE);
-    };
-    let args = arguments(alloc, func_type.params.as_slice(), numbers)?;
-    Ok((function, args))
-}
-
 /// Calls a function of an instance that has so many results, at most one, with these arguments.
 #[inline(always)]
 fn call_with(

@@ -21,6 +21,7 @@ mod fault;
 mod first_slice;
 mod handle;
 mod held;
+mod holding;
 mod inspect;
 mod instances;
 mod job;

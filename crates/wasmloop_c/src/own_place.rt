@@ -4,32 +4,44 @@ ghost use Rattle.std.specs.Prelude.{option_map};
 ghost use Rattle.wasmloop_c.specs.Calls.{ReadsHandle};
 ghost use Rattle.wasmloop_c.specs.Sites.{told_of};
 ghost use Rattle.wasmloop_c.specs.Sentences.{Untold, TellsOwnPlace, TellsOwnPlaceOf};
+ghost use Rattle.wasmloop_c.specs.Statuses.{OnlyRefused, status_in};
 
 use crate::copying::copy_bytes;
 use crate::handle::{Handle, on};
 use crate::place::words;
-use crate::status::{KIND, MEMORY, NONE};
+use crate::status::{KIND, NONE, status_of};
 use crate::stops::{Stopped, stopped};
 use crate::thing::Thing;
+use sentences::RefusedMemory;
 use std::alloc::Global;
 
-fn tell(alloc: Global, found: Option<Stopped<'_>>, into: &mut [u8], count: &mut u64) -> u32
-    ensures { TellsOwnPlaceOf (option_map (λ s. (option_map told_of s.0, s.1.now)) found.entry) into.old into.new count.old count.new result }
+fn tell(
+    alloc: Global,
+    found: Option<Stopped<'_>>,
+    into: &mut [u8],
+    count: &mut u64,
+) -> Result<u32, RefusedMemory>
+    ensures tells { TellsOwnPlaceOf (option_map (λ s. (option_map told_of s.0, s.1.now)) found.entry) into.old into.new count.old count.new (status_in result) }
+    ensures memory { OnlyRefused result }
 {
     let Some((stop, own)) = found else {
-        return KIND;
+        return Ok(KIND);
     };
     let Some(stop) = stop else {
-        return NONE;
+        return Ok(NONE);
     };
-    let Ok(text) = words(alloc, own, &stop) else {
-        return MEMORY;
-    };
-    copy_bytes(text.as_slice(), into, count)
+    let text = words(alloc, own, &stop)?;
+    Ok(copy_bytes(text.as_bytes(), into, count))
 }
 
-fn tell_thing(alloc: Global, thing: &Thing, into: &mut [u8], count: &mut u64) -> u32
-    ensures { TellsOwnPlace thing.now into.old into.new count.old count.new result }
+fn tell_thing(
+    alloc: Global,
+    thing: &Thing,
+    into: &mut [u8],
+    count: &mut u64,
+) -> Result<u32, RefusedMemory>
+    ensures tells { TellsOwnPlace thing.now into.old into.new count.old count.new (status_in result) }
+    ensures memory { OnlyRefused result }
 {
     tell(alloc, stopped(thing), into, count)
 }
@@ -44,5 +56,5 @@ pub extern "C" fn wasmloop_rt_stop_text(
 ) -> u32
     ensures { ReadsHandle handle.old.raw.value handle.new.raw.value result (Untold into.old into.new count.old count.new) (λ t. TellsOwnPlace t into.old into.new count.old count.new result) }
 {
-    on!(handle, alloc, held => tell_thing(alloc, &held, into, count))
+    on!(handle, alloc, held => status_of(tell_thing(alloc, &held, into, count)))
 }

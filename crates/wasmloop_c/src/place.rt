@@ -4,26 +4,26 @@ ghost use Rattle.std.specs.Prelude.{option_map};
 ghost use Rattle.wasmloop_c.specs.Calls.{ReadsHandle};
 ghost use Rattle.wasmloop_c.specs.Sites.{told_of};
 ghost use Rattle.wasmloop_c.specs.Sentences.{Untold, TellsPlace, TellsPlaceOf};
+ghost use Rattle.wasmloop_c.specs.Statuses.{OnlyRefused, status_in};
 
 use crate::copying::copy_bytes;
 use crate::handle::{Handle, on};
-use crate::status::{KIND, MEMORY, NONE, REFUSED};
+use crate::status::{KIND, NONE, REFUSED, status_of};
 use crate::stops::{StopPlace, Stopped, stopped};
 use crate::thing::Thing;
 use order::Trail;
-use sentences::tell_place;
-use std::alloc::{AllocError, Global};
+use sentences::{Page, RefusedMemory, tell_place};
+use std::alloc::Global;
 
-fn written(alloc: Global, bytes: &[u8], trail: &Trail) -> Result<Vec<u8>, AllocError> {
-    let mut text = Vec::new(alloc);
-    match tell_place(bytes, trail, "in ", &mut text) {
-        Ok(()) => Ok(text),
-        Err(_) => Err(AllocError),
-    }
+fn written(alloc: Global, bytes: &[u8], trail: &Trail) -> Result<String, RefusedMemory> {
+    let mut page = Page::new(alloc);
+    // the page itself keeps that memory was refused
+    let _ = tell_place(bytes, trail, "in ", &mut page);
+    page.finish()
 }
 
 /// The words for a place in a module of these bytes, as `tell_stopped` has them.
-pub fn words(alloc: Global, bytes: &[u8], stop: &StopPlace<'_>) -> Result<Vec<u8>, AllocError> {
+pub fn words(alloc: Global, bytes: &[u8], stop: &StopPlace<'_>) -> Result<String, RefusedMemory> {
     match stop {
         StopPlace::Callback(stop) => written(alloc, bytes, &Trail::of(stop)),
         StopPlace::Job(trail) => written(alloc, bytes, trail),
@@ -37,26 +37,32 @@ fn tell(
     bytes: &[u8],
     into: &mut [u8],
     count: &mut u64,
-) -> u32
-    ensures { TellsPlaceOf (option_map (λ s. (option_map told_of s.0, s.1.now)) found.entry) bytes.now into.old into.new count.old count.new result }
+) -> Result<u32, RefusedMemory>
+    ensures tells { TellsPlaceOf (option_map (λ s. (option_map told_of s.0, s.1.now)) found.entry) bytes.now into.old into.new count.old count.new (status_in result) }
+    ensures memory { OnlyRefused result }
 {
     let Some((stop, own)) = found else {
-        return KIND;
+        return Ok(KIND);
     };
     let Some(stop) = stop else {
-        return NONE;
+        return Ok(NONE);
     };
     if own != bytes {
-        return REFUSED;
+        return Ok(REFUSED);
     }
-    let Ok(text) = words(alloc, bytes, &stop) else {
-        return MEMORY;
-    };
-    copy_bytes(text.as_slice(), into, count)
+    let text = words(alloc, bytes, &stop)?;
+    Ok(copy_bytes(text.as_bytes(), into, count))
 }
 
-fn tell_thing(alloc: Global, thing: &Thing, bytes: &[u8], into: &mut [u8], count: &mut u64) -> u32
-    ensures { TellsPlace thing.now bytes.now into.old into.new count.old count.new result }
+fn tell_thing(
+    alloc: Global,
+    thing: &Thing,
+    bytes: &[u8],
+    into: &mut [u8],
+    count: &mut u64,
+) -> Result<u32, RefusedMemory>
+    ensures tells { TellsPlace thing.now bytes.now into.old into.new count.old count.new (status_in result) }
+    ensures memory { OnlyRefused result }
 {
     tell(alloc, stopped(thing), bytes, into, count)
 }
@@ -72,5 +78,5 @@ pub extern "C" fn wasmloop_rt_stop_told(
 ) -> u32
     ensures { ReadsHandle handle.old.raw.value handle.new.raw.value result (Untold into.old into.new count.old count.new) (λ t. TellsPlace t bytes.now into.old into.new count.old count.new result) }
 {
-    on!(handle, alloc, held => tell_thing(alloc, &held, bytes, into, count))
+    on!(handle, alloc, held => status_of(tell_thing(alloc, &held, bytes, into, count)))
 }

@@ -8,7 +8,7 @@ ghost use Rattle.wasmloop_c.specs.Calls.{ExplainsRefusal};
 use crate::copying::copy_bytes;
 use crate::status::{MEMORY, NONE, OK};
 use loader::{Refusal, load};
-use sentences::try_explain;
+use sentences::{text, try_explain};
 use std::alloc::Global;
 
 /// Copies the sentence on why bytes are no guest, as `check` prints it, as far as there is room.
@@ -32,7 +32,7 @@ pub extern "C" fn wasmloop_rt_explain(
     let Ok(account) = try_explain(refusal, alloc, bytes) else {
         return MEMORY;
     };
-    let Ok(text) = format!(in alloc; "{account}") else {
+    let Ok(text) = text(alloc, &account) else {
         return MEMORY;
     };
     copy_bytes(text.as_bytes(), into, count)

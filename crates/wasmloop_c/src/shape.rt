@@ -34,10 +34,11 @@ pub struct Shape {
     pub imports: u64,
 }
 
-fn first_pages(memory: Option<Limits>) -> u32
-    ensures { result ≡ minimum memory }
+/// How large a memory or a table is initially.
+pub fn first_size(limits: Option<Limits>) -> u32
+    ensures { result ≡ minimum limits }
 {
-    match memory {
+    match limits {
         Some(limits) => limits.min,
         None => 0,
     }
@@ -70,7 +71,7 @@ fn shape_of(linked: &Linked) -> Shape
         work: has(linked, EntryPoint::Work),
         after_work: has(linked, EntryPoint::AfterWork),
         table: contents.table.is_some() as u32,
-        pages: first_pages(contents.memory),
+        pages: first_size(contents.memory),
         most_pages: most_pages(contents.memory),
         imports: contents.imports.len() as u64,
     }

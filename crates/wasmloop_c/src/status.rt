@@ -1,6 +1,7 @@
 // What a call answers.
 
-ghost use Rattle.wasmloop_c.specs.Statuses.{AreStatuses};
+ghost use Rattle.std.specs.Prelude.{◌≡◌};
+ghost use Rattle.wasmloop_c.specs.Statuses.{AreStatuses, status_in};
 
 /// It is done.
 pub const OK: u32 = 0;
@@ -42,3 +43,13 @@ pub const ARGUMENTS: u32 = 12;
 pub fn are_numbers()
     ensures { AreStatuses }
 {}
+
+/// What C is answered: `MEMORY` where memory was refused, which the error shows, and else the status.
+pub fn status_of<E: Drop>(answer: Result<u32, E>) -> u32
+    ensures { result ≡ status_in answer }
+{
+    match answer {
+        Ok(status) => status,
+        Err(_) => MEMORY,
+    }
+}

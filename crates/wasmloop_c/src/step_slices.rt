@@ -1,20 +1,44 @@
 // A loop's steps in slices.
 
 ghost use Rattle.std.specs.Prelude.{◌≡◌, ◌≤◌, ◌<◌};
-ghost use Rattle.wasmloop_c.specs.StepSlices.{IsOfLoop, LeftByStep, RunsStep, StepsFor, StepsHeld, TellsSlice};
+ghost use Rattle.wasmloop_c.specs.Statuses.{OnlyRefused, status_in};
+ghost use Rattle.wasmloop_c.specs.StepSlices.{IsOfLoop, LeftByStep, RunsStep, StepsFor, StepsHeld, TellsSlice, answer_of};
 ghost use Rattle.phases.specs.declared.slices.StepSlice.TheVariants as slice;
 ghost use Rattle.wasmloop_c.specs.declared.thing.LoopStage.TheVariants as stage;
 
 use crate::did::Did;
 use crate::handle::{Handle, on};
 use crate::held::{HeldLoop, HeldStep};
-use crate::status::{KIND, MEMORY, OK, RANGE};
+use crate::status::{KIND, OK, RANGE, status_of};
 use crate::thing::{LoopStage, Thing};
 use desk::Desk;
 use events::did::StepDid;
+use order::RefusedMemory;
 use phases::{LoopCore, StepSlice};
 use std::alloc::Global;
 use std::mem::replace;
+
+/// Why there is no slice.
+#[derive(Drop)]
+pub enum NoSlice {
+    /// Memory was refused for the step.
+    Memory(RefusedMemory),
+    /// There is no loop.
+    Gone,
+}
+
+impl NoSlice {
+    /// What C is answered.
+    pub fn answer(self) -> Result<u32, RefusedMemory>
+        ensures answer { result ≡ answer_of self }
+        ensures memory { OnlyRefused result }
+    {
+        match self {
+            NoSlice::Memory(refused) => Err(refused),
+            NoSlice::Gone => Ok(KIND),
+        }
+    }
+}
 
 /// What a slice of a step has come to.
 #[derive(Drop)]
@@ -23,8 +47,8 @@ pub enum SliceEnd {
     Over(Did),
     /// It goes on in another slice.
     Paused,
-    /// There was none: nothing has changed, and this is what the call answers.
-    Refused(u32),
+    /// There was none: nothing has changed.
+    Refused(NoSlice),
 }
 
 /// A step that is over, of the loop of this number.
@@ -68,9 +92,9 @@ fn begin(held: HeldLoop, units: u64) -> (LoopStage, SliceEnd)
     match core.begin_step() {
         Ok(StepSlice::Paused(step)) => go_on(HeldStep { step, number }, units),
         Ok(StepSlice::Over(core, did)) => over(core, &did, number),
-        Err(core) => (
+        Err((core, refused)) => (
             LoopStage::Resting(HeldLoop { core, number }),
-            SliceEnd::Refused(MEMORY),
+            SliceEnd::Refused(NoSlice::Memory(refused)),
         ),
     }
 }
@@ -83,34 +107,41 @@ pub fn slice(stage: LoopStage, units: u64) -> (LoopStage, SliceEnd)
     match stage {
         LoopStage::Resting(held) => begin(held, units),
         LoopStage::Stepping(held) => go_on(held, units),
-        LoopStage::Gone => (LoopStage::Gone, SliceEnd::Refused(KIND)),
+        LoopStage::Gone => (LoopStage::Gone, SliceEnd::Refused(NoSlice::Gone)),
     }
 }
 
 /// Tells C what a slice has come to.
-fn tell(end: SliceEnd, over: &mut u32, did: &mut Did) -> u32
-    ensures { TellsSlice end over.old over.new did.old did.new result }
+fn tell(end: SliceEnd, over: &mut u32, did: &mut Did) -> Result<u32, RefusedMemory>
+    ensures tells { TellsSlice end over.old over.new did.old did.new (status_in result) }
+    ensures memory { OnlyRefused result }
 {
     match end {
         SliceEnd::Over(told) => {
             *over = 1;
             *did = told;
-            OK
+            Ok(OK)
         }
         SliceEnd::Paused => {
             *over = 0;
-            OK
+            Ok(OK)
         }
-        SliceEnd::Refused(status) => status,
+        SliceEnd::Refused(why) => why.answer(),
     }
 }
 
-fn step_for(thing: &mut Thing, units: u64, over: &mut u32, did: &mut Did) -> u32
+fn step_for(
+    thing: &mut Thing,
+    units: u64,
+    over: &mut u32,
+    did: &mut Did,
+) -> Result<u32, RefusedMemory>
     requires { 1 ≤ units }
-    ensures { StepsFor thing.old thing.new units over.old over.new did.old did.new result }
+    ensures steps { StepsFor thing.old thing.new units over.old over.new did.old did.new (status_in result) }
+    ensures memory { OnlyRefused result }
 {
     let Thing::Loop(stage, _) = thing else {
-        return KIND;
+        return Ok(KIND);
     };
     let (left, end) = slice(replace(&mut **stage, LoopStage::Gone), units);
     **stage = left;
@@ -132,5 +163,5 @@ pub extern "C" fn wasmloop_rt_step_for(
     if units < 1 {
         return RANGE;
     }
-    on!(handle, alloc, held => step_for(&mut held, units, over, did))
+    on!(handle, alloc, held => status_of(step_for(&mut held, units, over, did)))
 }

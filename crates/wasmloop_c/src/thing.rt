@@ -79,10 +79,23 @@ pub fn resting_in(thing: &Thing) -> Option<&LoopCore<Desk>>
 /// Room for what a handle has, and for what stands apart of it.
 pub type Room<T> = (Box<Thing, Global>, Box<T, Global>);
 
-/// Room for a job.
-pub fn job_room(alloc: Global) -> Result<Room<JobStage>, AllocError> {
+/// Memory for a job was refused. One is made by `job_room` alone.
+#[derive(Drop)]
+pub struct RefusedRoom {
+    by: AllocError,
+}
+
+fn room_of_job(alloc: Global) -> Result<Room<JobStage>, AllocError> {
     let whole = Box::new(alloc, Thing::Gone)?;
     Ok((whole, Box::new(alloc, JobStage::Gone)?))
+}
+
+/// Room for a job.
+pub fn job_room(alloc: Global) -> Result<Room<JobStage>, RefusedRoom> {
+    match room_of_job(alloc) {
+        Ok(room) => Ok(room),
+        Err(by) => Err(RefusedRoom { by }),
+    }
 }
 
 /// Room for an instance.

@@ -1,14 +1,16 @@
 // Turns in slices.
 
-ghost use Rattle.std.specs.Prelude.{◌≡◌, ◌≤◌, ◌<◌, ◌⊎◌};
+ghost use Rattle.std.specs.Prelude.{◌≡◌, ◌≤◌, ◌<◌, ◌⊎◌, true, false};
+ghost use Rattle.wasmloop_c.specs.Statuses.{OnlyRefused, status_in};
 ghost use Rattle.wasmloop_c.specs.TurnSlices.{TakesSlice, TakesSlices, TurnsFor, TurnsHeld, TurnsStage, WaitsFor, counted_for, used_in};
 
 use crate::did::{Did, RAN};
 use crate::handle::{Handle, on};
-use crate::status::{KIND, OK, RANGE};
-use crate::step_slices::{SliceEnd, slice};
+use crate::status::{KIND, OK, RANGE, status_of};
+use crate::step_slices::{NoSlice, SliceEnd, slice};
 use crate::thing::{LoopStage, Thing};
 use crate::turn::{Turned, counted_after, ends, wait_of};
+use order::RefusedMemory;
 use std::alloc::Global;
 use std::mem::replace;
 
@@ -29,8 +31,8 @@ pub enum TurnFlow {
     GoesOn,
     Over,
     Paused,
-    /// There was none: nothing has changed, and this is what the call answers.
-    Refused(u32),
+    /// There was none: nothing has changed.
+    Refused(NoSlice),
 }
 
 /// What a call leaves of a turn.
@@ -43,7 +45,7 @@ pub struct TurnLeft {
     /// 1 where the turn is over.
     pub over: u32,
     /// What the call answers.
-    pub status: u32,
+    pub status: Result<u32, RefusedMemory>,
 }
 
 /// The units that the callback under way has used.
@@ -67,10 +69,7 @@ fn next(turn: Turning, most: u32, did: &mut Did) -> (Turning, TurnFlow)
     let told = match end {
         SliceEnd::Over(told) => told,
         SliceEnd::Paused => return (Turning { stage, ran, left }, TurnFlow::Paused),
-        SliceEnd::Refused(status) => return (
-            Turning { stage, ran, left },
-            TurnFlow::Refused(status),
-        ),
+        SliceEnd::Refused(why) => return (Turning { stage, ran, left }, TurnFlow::Refused(why)),
     };
     *did = told;
     let left = left - (did.used - used);
@@ -85,7 +84,7 @@ fn next(turn: Turning, most: u32, did: &mut Did) -> (Turning, TurnFlow)
     (Turning { stage, ran, left }, flow)
 }
 
-fn left_of(turn: Turning, over: u32, status: u32) -> TurnLeft
+fn left_of(turn: Turning, over: u32, status: Result<u32, RefusedMemory>) -> TurnLeft
     ensures { result ≡ record { stage = turn.stage; ran = turn.ran; over = over; status = status } }
 {
     let Turning {
@@ -116,16 +115,27 @@ fn take_slices(stage: LoopStage, most: u32, units: u64, did: &mut Did) -> TurnLe
         turn = after;
         match flow {
             TurnFlow::GoesOn => {}
-            TurnFlow::Over => return left_of(turn, 1, OK),
-            TurnFlow::Paused => return left_of(turn, 0, OK),
-            TurnFlow::Refused(status) => return left_of(
+            TurnFlow::Over => return left_of(turn, 1, Ok(OK)),
+            TurnFlow::Paused => return left_of(turn, 0, Ok(OK)),
+            TurnFlow::Refused(why) => return left_of(
                 turn,
                 0,
-                if taken == 0 { status } else { OK },
+                if taken == 0 { why.answer() } else { Ok(OK) },
             ),
         }
     }
-    left_of(turn, 0, OK)
+    left_of(turn, 0, Ok(OK))
+}
+
+/// Whether a call has done something.
+fn is_done(answer: &Result<u32, RefusedMemory>) -> bool
+    ensures done { result ≡ true → status_in answer.now ≡ OK }
+    ensures others { result ≡ false → status_in answer.now ≡ OK → ⊥ }
+{
+    match answer {
+        Ok(status) => *status == OK,
+        Err(_) => false,
+    }
 }
 
 /// How long the loop needs only replies and sends: not at all while its turn isn't over.
@@ -156,12 +166,13 @@ fn turn_stage(
     units: u64,
     over: &mut u32,
     told: &mut Turned,
-) -> (LoopStage, u32)
+) -> (LoopStage, Result<u32, RefusedMemory>)
     requires { (1 ≤ most) × (1 ≤ units) }
-    ensures { TurnsStage stage callbacks.old result.0 callbacks.new most units over.old over.new told.old told.new result.1 }
+    ensures turns { TurnsStage stage callbacks.old result.0 callbacks.new most units over.old over.new told.old told.new (status_in result.1) }
+    ensures memory { OnlyRefused result.1 }
 {
     let left = take_slices(stage, most, units, &mut told.did);
-    if left.status == OK {
+    if is_done(&left.status) {
         *over = left.over;
         told.callbacks = callbacks.saturating_add(left.ran);
         told.wait = wait_for(&left, &told.did, told.callbacks);
@@ -171,17 +182,24 @@ fn turn_stage(
     (left.stage, left.status)
 }
 
-fn turn_for(thing: &mut Thing, most: u32, units: u64, over: &mut u32, told: &mut Turned) -> u32
+fn turn_for(
+    thing: &mut Thing,
+    most: u32,
+    units: u64,
+    over: &mut u32,
+    told: &mut Turned,
+) -> Result<u32, RefusedMemory>
     requires { (1 ≤ most) × (1 ≤ units) }
-    ensures { TurnsFor thing.old thing.new most units over.old over.new told.old told.new result }
+    ensures turns { TurnsFor thing.old thing.new most units over.old over.new told.old told.new (status_in result) }
+    ensures memory { OnlyRefused result }
 {
     let Thing::Loop(stage, callbacks) = thing else {
-        return KIND;
+        return Ok(KIND);
     };
     let taken = replace(&mut **stage, LoopStage::Gone);
-    let (left, status) = turn_stage(taken, callbacks, most, units, over, told);
+    let (left, answer) = turn_stage(taken, callbacks, most, units, over, told);
     **stage = left;
-    status
+    answer
 }
 
 /// Takes steps of a loop as `wasmloop_rt_turn` does, within so many units of fuel, at least one, and tells whether the turn is over.
@@ -200,5 +218,5 @@ pub extern "C" fn wasmloop_rt_turn_for(
     if most < 1 || units < 1 {
         return RANGE;
     }
-    on!(handle, alloc, held => turn_for(&mut held, most, units, over, told))
+    on!(handle, alloc, held => status_of(turn_for(&mut held, most, units, over, told)))
 }

@@ -2,13 +2,14 @@
 
 ghost use Rattle.wasmloop_c.specs.Calls.{ReadsHandle};
 ghost use Rattle.wasmloop_c.specs.Sentences.{Untold, TellsWarning, TellsWarningOf};
+ghost use Rattle.wasmloop_c.specs.Statuses.{OnlyRefused, status_in};
 
 use crate::copying::copy_bytes;
 use crate::handle::{Handle, on};
-use crate::status::{KIND, MEMORY, NONE};
+use crate::status::{KIND, NONE, status_of};
 use crate::thing::Thing;
 use imports::Linked;
-use sentences::warnings;
+use sentences::{RefusedMemory, text, warnings};
 use std::alloc::Global;
 
 fn tell_warning(
@@ -17,24 +18,30 @@ fn tell_warning(
     number: u32,
     into: &mut [u8],
     count: &mut u64,
-) -> u32
-    ensures { TellsWarningOf into.old into.new count.old count.new result }
+) -> Result<u32, RefusedMemory>
+    ensures tells { TellsWarningOf into.old into.new count.old count.new (status_in result) }
+    ensures memory { OnlyRefused result }
 {
     let found = warnings(linked);
     let Some(warning) = found.iter().flatten().nth(number as usize) else {
-        return NONE;
+        return Ok(NONE);
     };
-    let Ok(text) = format!(in alloc; "{warning}") else {
-        return MEMORY;
-    };
-    copy_bytes(text.as_bytes(), into, count)
+    let text = text(alloc, *warning)?;
+    Ok(copy_bytes(text.as_bytes(), into, count))
 }
 
-fn warning(alloc: Global, thing: &Thing, number: u32, into: &mut [u8], count: &mut u64) -> u32
-    ensures { TellsWarning thing.now into.old into.new count.old count.new result }
+fn warning(
+    alloc: Global,
+    thing: &Thing,
+    number: u32,
+    into: &mut [u8],
+    count: &mut u64,
+) -> Result<u32, RefusedMemory>
+    ensures tells { TellsWarning thing.now into.old into.new count.old count.new (status_in result) }
+    ensures memory { OnlyRefused result }
 {
     let Thing::Module(linked) = thing else {
-        return KIND;
+        return Ok(KIND);
     };
     tell_warning(alloc, linked, number, into, count)
 }
@@ -50,5 +57,5 @@ pub extern "C" fn wasmloop_rt_warning(
 ) -> u32
     ensures { ReadsHandle module.old.raw.value module.new.raw.value result (Untold into.old into.new count.old count.new) (λ t. TellsWarning t into.old into.new count.old count.new result) }
 {
-    on!(module, alloc, held => warning(alloc, &held, number, into, count))
+    on!(module, alloc, held => status_of(warning(alloc, &held, number, into, count)))
 }

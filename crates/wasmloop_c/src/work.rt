@@ -1,18 +1,19 @@
 // Jobs: what a loop asks for, and in time the reply.
 
-ghost use Rattle.std.specs.Prelude.{◌≡◌, ◌≢◌, ◌⊎◌, [], None, IsNone, IsSomeAnd, IfSome, IfOk, IfErr};
+ghost use Rattle.std.specs.Prelude.{◌≡◌, ◌≢◌, ◌⊎◌, [], None, IsNone, IsSomeAnd, IfSome, IfErr};
 ghost use Rattle.wasmloop_c.specs.Calls.{OnHandle, OnLoop, OnResting, OnHeldLoop, ReadsHandle, HandsOut, RunsToEnd, RunsStageToEnd};
 ghost use Rattle.wasmloop_c.specs.Calls.{StartsOfLoop, OffersReply, OffersStage, OffersHeld, TellsJob, TellsStage};
 ghost use Rattle.wasmloop_c.specs.Numbers.{about_order, about_paused, about_told, outcome_numbers};
+ghost use Rattle.wasmloop_c.specs.Statuses.{OnlyRefused, status_in};
 
 use crate::handle::{Handle, on};
 use crate::job::RunnableOrder;
-use crate::status::{EMPTY, KIND, MEMORY, NONE, OK, STRANGER};
-use crate::thing::{JobStage, LoopStage, Room, Thing, job_room};
+use crate::status::{EMPTY, KIND, MEMORY, NONE, OK, STRANGER, status_of};
+use crate::thing::{JobStage, LoopStage, RefusedRoom, Room, Thing, job_room};
 use desk::Desk;
 use order::{Order, Outcome, Running, Told};
 use phases::{Accepted, LoopCore};
-use std::alloc::{AllocError, Global};
+use std::alloc::Global;
 use std::mem::replace;
 
 /// What a job is about.
@@ -89,52 +90,52 @@ fn of_told(told: &Told) -> About
     }
 }
 
-/// Hands out the next request in the room that was made for it. `MEMORY` where that was refused, and nowhere else.
+/// Hands out the next request in the room that was made for it.
 fn hand_out(
     alloc: Global,
     core: &mut LoopCore<Desk>,
-    made: Result<Room<JobStage>, AllocError>,
+    made: Result<Room<JobStage>, RefusedRoom>,
     job: &mut Handle,
-) -> u32
+) -> Result<u32, RefusedRoom>
     requires outstanding { core.old.loop.state.requests.outstanding ≢ [] }
     requires empty { job.old.raw.value ≡ None }
-    ensures hands_out { HandsOut core.old core.new job.new.raw.value result }
+    ensures hands_out { HandsOut core.old core.new job.new.raw.value (status_in result) }
     ensures setting { core.new.setting ≡ core.old.setting }
-    ensures made { IfOk made (λ _. result ≢ MEMORY) }
-    ensures refused { IfErr made (λ _. result ≡ MEMORY) }
+    ensures memory { OnlyRefused result }
+    ensures refused { IfErr made (λ _. status_in result ≡ MEMORY) }
 {
-    let Ok((mut whole, mut stage)) = made else {
-        return MEMORY;
-    };
+    let (mut whole, mut stage) = made?;
     let Some(order) = core.next_order() else {
-        return NONE;
+        return Ok(NONE);
     };
     *stage = JobStage::Asked(RunnableOrder::new(order));
     *whole = Thing::Job(stage);
     job.put(alloc, whole);
-    OK
+    Ok(OK)
 }
 
-fn next_job_of(alloc: Global, stage: &mut LoopStage, job: &mut Handle) -> u32
+fn next_job_of(alloc: Global, stage: &mut LoopStage, job: &mut Handle) -> Result<u32, RefusedRoom>
     requires { job.old.raw.value ≡ None }
-    ensures { OnResting stage.old stage.new result (job.new.raw.value ≡ None) (λ c d. HandsOut c d job.new.raw.value result) }
+    ensures hands_out { OnResting stage.old stage.new (status_in result) (job.new.raw.value ≡ None) (λ c d. HandsOut c d job.new.raw.value (status_in result)) }
+    ensures memory { OnlyRefused result }
 {
     let LoopStage::Resting(held) = stage else {
-        return KIND;
+        return Ok(KIND);
     };
     if held.core.outstanding() == 0 {
-        return NONE;
+        return Ok(NONE);
     }
     let room = job_room(alloc);
     hand_out(alloc, &mut held.core, room, job)
 }
 
-fn next_job(alloc: Global, thing: &mut Thing, job: &mut Handle) -> u32
+fn next_job(alloc: Global, thing: &mut Thing, job: &mut Handle) -> Result<u32, RefusedRoom>
     requires { job.old.raw.value ≡ None }
-    ensures { OnLoop thing.old thing.new result (job.new.raw.value ≡ None) (λ c d. HandsOut c d job.new.raw.value result) }
+    ensures hands_out { OnLoop thing.old thing.new (status_in result) (job.new.raw.value ≡ None) (λ c d. HandsOut c d job.new.raw.value (status_in result)) }
+    ensures memory { OnlyRefused result }
 {
     let Thing::Loop(stage, _) = thing else {
-        return KIND;
+        return Ok(KIND);
     };
     next_job_of(alloc, stage, job)
 }
@@ -148,7 +149,7 @@ pub extern "C" fn wasmloop_rt_next_job(alloc: Global, handle: &mut Handle, job: 
     if job.is_full() {
         return KIND;
     }
-    on!(handle, alloc, held => next_job(alloc, &mut held, job))
+    on!(handle, alloc, held => status_of(next_job(alloc, &mut held, job)))
 }
 
 fn run_stage(alloc: Global, stage: JobStage) -> (JobStage, u32)

@@ -1,6 +1,7 @@
 // The calls of a guest's imports, and their arguments.
 
 ghost use Rattle.std.specs.Prelude.{◌≡◌, ◌≤◌, ◌+◌, [], ◌∷◌, Some, map, slice_get};
+ghost use Rattle.limits.specs.declared.TheConstants.{MAX_BYTES};
 ghost use Rattle.syntax.specs.declared.types.ValType.TheVariants as valtype;
 ghost use Rattle.syntax.specs.declared.types.Value.TheVariants as value;
 ghost use Rattle.validate.specs.Typing.{type_of};
@@ -15,6 +16,7 @@ use crate::uv::answers::{INVALID, OUTSIDE_MEMORY};
 use imports::{Call, Linked};
 use instance::memory::Memory;
 use interp::host::Args;
+use limits::MAX_BYTES;
 use syntax::types::Value;
 
 /// The function of "uv" that a linked module imports under this number, which is called with these arguments.
@@ -91,12 +93,14 @@ pub fn copy_in(input: &[u8], to: u32, from: u32, count: u32, memory: &mut Memory
     0
 }
 
-/// How many bytes are copied after a call that answered so, where so many were before it. No call answers a negative number that copied any.
+/// How many bytes are copied after a call that answered so, where so many were before it. No call answers a negative number that copied any, and
+/// none copies more than `MAX_BYTES`.
 #[inline(always)]
 pub fn counted(copied: u64, call: Call, args: &Args, answer: Value) -> u64
     requires { map type_of args.now ≡ (type_of_call call).params }
     ensures more { copied ≤ result }
     ensures most { result ≤ copied + bytes_named call args.now }
+    ensures few { result ≤ copied + MAX_BYTES }
 {
     let count = match call {
         Call::InCopy | Call::QueueWork => three(args).2,
@@ -104,7 +108,9 @@ pub fn counted(copied: u64, call: Call, args: &Args, answer: Value) -> u64
         _ => return copied,
     };
     match answer {
-        Value::I32(number) if number.cast_signed() >= 0 => copied.saturating_add(u64::from(count)),
+        Value::I32(number) if number.cast_signed() >= 0 => {
+            copied.saturating_add(u64::from(count).min(MAX_BYTES as u64))
+        }
         _ => copied,
     }
 }

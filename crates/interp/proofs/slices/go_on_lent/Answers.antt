@@ -2,6 +2,7 @@ use Rattle.interp.proofs.Words.{ap, arith, BareEnding, Bool, ComesFromAny, Ended
 use Rattle.interp.proofs.Words.{List, MachineState, Option, result_count, ValType, refl, subst, sym, take, topmost_values, true, Value, ℕ, ◌*◌, ◌+◌, ◌-◌, ◌<◌, ◌∙◌, ◌≡◌, ◌≤◌}
 use Rattle.std.proofs.Common.{◌↔◌, IsTrue, min as nat_min, ⊎_elim}
 use Rattle.std.proofs.Math.Nat.{eq-or-lt_of_le}
+use Rattle.limits.specs.declared.TheConstants.{MAX_BYTES}
 use Rattle.events.specs.declared.ended.Ending.TheVariants as ending
 use Rattle.events.specs.declared.ended.BareEnding.TheVariants as bare
 use Rattle.interp.specs.Lent.{result_count_of}
@@ -73,16 +74,17 @@ module _ (g : Over) (c : After-run_within-run g) where
 
 -- what a slice that is paused has used
 slice_used : (old left units before since copied most min granted used : ℕ) → IsGranted min most since granted → min ≡ nat_min units left → copied ≡ before
-    → IsMost copied units most → before ≤ since → used ≡ granted → used < left
+    → IsMost copied units most → before ≤ since → since ≤ before + MAX_BYTES * used → used ≡ granted → used < left
     → (old + nat_min 1 units ≤ old + used) × (old + used ≤ old + units) × (UNIT_BYTES * (old + units) + before ≤ UNIT_BYTES * (old + used) + since) × (1 ≤ left - used)
-    × (old + used + (left - used) ≡ old + left)
-slice_used old left units before since copied most min granted used g is same bound more all less =
+    × (old + used + (left - used) ≡ old + left) × (MAX_BYTES * old + since ≤ MAX_BYTES * (old + used) + before)
+slice_used old left units before since copied most min granted used g is same bound more few all less =
     let within = g.within in (
       some g.some,
       omega (arith, all, within, is),
       ⊎_elim whole cut (eq-or-lt_of_le g.within),
       omega (arith, less),
       omega (arith, less),
+      omega (arith, few),
     ) where
       some : nat_min 1 min ≤ granted → old + nat_min 1 units ≤ old + used
       some one = omega (arith, one, is, less, all)
@@ -135,8 +137,8 @@ returns-then-is_paused-clause-slice g c none =
     let paused = c.is_paused.ensures.0 c.if-is_paused.true in
     let used = all g a paused.0 in
     let told = slice_used p.used p.left units (g.H.Host.copied c.args.host.now) (g.H.Host.copied c.run_within-run.new.host) c.copied.result c.most_bytes.result c.min.result (granted g a)
-    c.run_within-run.result.ended.used (granted_is g a) c.min.ensures c.copied.ensures c.most_bytes.ensures c.run_within-run.ensures.copies used paused.1 in
-    record { some = told.0; most = told.1; all = told.2; left = told.3; sum = told.4 }
+    c.run_within-run.result.ended.used (granted_is g a) c.min.ensures c.copied.ensures c.most_bytes.ensures c.run_within-run.ensures.copies c.run_within-run.ensures.few used paused.1 in
+    record { some = told.0; most = told.1; all = told.2; few = told.5; left = told.3; sum = told.4 }
 
 pub returns-then-is_paused-clause-stands : goal.returns-then-is_paused-clause-stands
 returns-then-is_paused-clause-stands g c none =
@@ -191,7 +193,8 @@ returns-clause-last g c =
     let most = within g a in
     let some = few g a in
     let units = few_units g a in
-    (omega (arith), omega (arith, most, units), omega (arith, most, some))
+    let few = c.run_within-run.ensures.few in
+    (omega (arith), omega (arith, most, units), omega (arith, most, some), omega (arith, few))
 
 pub returns-clause-results : goal.returns-clause-results
 returns-clause-results g c =

@@ -7,9 +7,9 @@ use Rattle.sentences.proofs.invalid.invalid.Goals as goal
 
 pub returns : goal.returns
 returns c =
-    let same : c.in-Some.refused.fault ≡ c.args.fault = differs_false the_type (search rules) _ _ (sym c.if-ne.ensures) in
-    let spelled : Spells c.args.bytes.now c.in-Ok.module.contents = rw c.in-Ok.is at c.decoded.ensures.spelled in
-    let placed : BreaksAt c.in-Ok.module.contents c.in-Some.refused.fault c.in-Some.refused.site = rw c.in-Some.is at c.refused_at.ensures.placed in
-    let broken : BreaksAt c.in-Ok.module.contents c.args.fault c.in-Some.refused.site =
-    subst (λ fault. BreaksAt c.in-Ok.module.contents fault c.in-Some.refused.site) same placed in
-    (c.in-Ok.module.contents, spelled, c.in-Some.refused.site, broken, rw c.in-Some-place_of.is at c.place_of.ensures, c.in_ok-defect.ensures)
+    let same : c.in-Some-2.refused.fault ≡ c.args.fault = differs_false the_type (search rules) _ _ (sym c.if-ne.ensures) in
+    let spelled : Spells c.args.bytes.now c.in-Some.«module».contents = rw c.in-Some.is at c.in_ok-module.ensures in
+    let placed : BreaksAt c.in-Some.«module».contents c.in-Some-2.refused.fault c.in-Some-2.refused.site = rw c.in-Some-2.is at c.in_ok-refused.ensures in
+    let broken : BreaksAt c.in-Some.«module».contents c.args.fault c.in-Some-2.refused.site =
+    subst (λ fault. BreaksAt c.in-Some.«module».contents fault c.in-Some-2.refused.site) same placed in
+    (c.in-Some.«module».contents, spelled, c.in-Some-2.refused.site, broken, rw c.in-Some-place_of.is at c.place_of.ensures, c.in_ok-defect.ensures)

@@ -9,5 +9,5 @@ use Rattle.sentences.proofs.undecoded.undecoded.Goals as goal
 pub returns : goal.returns
 returns c =
     let same : c.in-Some.refused.fault ≡ c.args.fault = differs_false the_type (search rules) _ _ (sym c.if-ne.ensures) in
-    let nothing : c.in-Some.refused.fault ≢ Memory → SpellsNothing c.args.bytes.now = rw c.in-Some.is at c.refused_at.ensures.refused in
-    (subst (λ fault. fault ≢ Memory → SpellsNothing c.args.bytes.now) same nothing, rw c.in-Some.is at c.refused_at.ensures.within, refl)
+    let nothing : c.in-Some.refused.fault ≢ Memory → SpellsNothing c.args.bytes.now = rw c.in-Some.is at c.in_ok-refused.ensures.refused in
+    (subst (λ fault. fault ≢ Memory → SpellsNothing c.args.bytes.now) same nothing, rw c.in-Some.is at c.in_ok-refused.ensures.within, refl)

@@ -37,4 +37,4 @@ returns-in-Ok-Over c =
     )
 
 pub returns-in-Err : goal.returns-in-Err
-returns-in-Err c = inr (ap (λ (h : HeldLoop). stage.Resting h) (same c.args.held c.in-Err.core _ c.in-Err.ensures.refused), refl)
+returns-in-Err c = inr (c.in-Err.refused, ap (λ (h : HeldLoop). stage.Resting h) (same c.args.held c.in-Err.core _ c.in-Err.ensures.refused), refl)

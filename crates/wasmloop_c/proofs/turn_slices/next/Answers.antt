@@ -7,7 +7,7 @@ use Rattle.wasmloop_c.proofs.turn_slices.next.Goals as goal
 
 pub returns-in-Refused : goal.returns-in-Refused
 returns-in-Refused c =
-    let none = refused c.args.turn.stage c.args.turn.left c.slice-stage.result.0 c.in-Refused.status
+    let none = refused c.args.turn.stage c.args.turn.left c.slice-stage.result.0 c.in-Refused.why
     (subst (λ (it : SliceEnd). RunsStep c.args.turn.stage c.args.turn.left c.slice-stage.result.0 it) c.in-Refused.is c.slice-stage.ensures) in
     (ap (λ (s : LoopStage). record { stage = s; ran = c.args.turn.ran; left = c.args.turn.left }) none.0, refl, none.1)
 

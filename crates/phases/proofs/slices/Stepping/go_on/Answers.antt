@@ -137,4 +137,5 @@ returns-in-None g c =
       some = uses.some;
       most = uses.most;
       all = uses.all;
+      few = uses.few;
     })

@@ -7,7 +7,7 @@ use Rattle.limits.specs.declared.TheConstants.{MAX_REQUESTS, MAX_LOOPS}
 use Rattle.tallies.specs.Requests.{last_in}
 use Rattle.tallies.proofs.Lists.{part_set, part_push, set_apart}
 use Rattle.claims.specs.declared.rule.SeatView.{SeatView}
-use Rattle.claims.specs.Rule.{IsWorker, IsCrew, with_worker, with_crew, without_crew, without_workers, crew_of, workers_of, spent_view, seat_of, making_seat, next_making_seat, next_seat, place, of_loop, WordsAreKept, IsClaimed}
+use Rattle.claims.specs.Rule.{IsWorker, IsCrew, with_worker, with_crew, without_crew, without_workers, crew_of, workers_of, spent_view, seat_of, making_seat, place, of_loop, WordsAreKept, IsClaimed}
 use Rattle.claims.specs.Inner.Steps.{with_opened}
 use Rattle.claims.proofs.Moves.{begins, hit, no_list, own, opens, makes_seat, joins_worker, joins_crew, gives_back, gives_up}
 
@@ -39,14 +39,16 @@ module _ {loops : ℕ} {words : List ℕ} {views : List SeatView} (claimed : IsC
             ap (λ (u : SeatView). u.opened) (set_apart views id (m + 1) (with_opened is_posting v (slot, r)) (seat_of 0) (λ e. omega arith)) ∙ claimed.others m far;
       }
 
-  pub makes_claimed : 0 < v.made → IsClaimed loops words (set views id (next_making_seat v) ++ next_seat v ∷ [])
-  makes_claimed some_made =
+  pub makes_claimed : (share hired : ℕ) → 0 < v.made → hired ≡ v.hired + share
+      → IsClaimed loops words (set views id (record v { made = v.made + 1; hired = hired }) ++ record (seat_of v.made) { share = share } ∷ [])
+  makes_claimed share hired some_made counts =
+      let maker : SeatView = record v { made = v.made + 1; hired = hired } in
       record {
-        kept = makes_seat claimed.kept id v at some_made;
+        kept = makes_seat claimed.kept id v at share hired some_made counts;
         others =
             λ l far.
-            part_push (λ u. u.opened) (set views id (next_making_seat v)) (next_seat v) (seat_of 0) (l + 1) refl
-            ∙ part_set (λ u. u.opened) views id (l + 1) v (next_making_seat v) (seat_of 0) at refl ∙ claimed.others l far;
+            part_push (λ u. u.opened) (set views id maker) (record (seat_of v.made) { share = share }) (seat_of 0) (l + 1) refl
+            ∙ part_set (λ u. u.opened) views id (l + 1) v maker (seat_of 0) at refl ∙ claimed.others l far;
       }
 
   pub joins_claimed : (other : ℕ) (o : SeatView) → ¬ (other ≡ id) → get_elem? (set views id (with_worker v o)) other ≡ some o → IsWorker o
@@ -92,5 +94,5 @@ module _ {loops : ℕ} {words : List ℕ} {views : List SeatView} (claimed : IsC
       }
 
 -- the words at first
-pub begins_claimed : (loops : ℕ) → IsClaimed loops (replicate (MAX_LOOPS * MAX_REQUESTS) 0) (making_seat 1 ∷ [])
+pub begins_claimed : (loops : ℕ) → IsClaimed loops (replicate (MAX_LOOPS * MAX_REQUESTS) 0) (making_seat 1 1 ∷ [])
 begins_claimed loops = record { kept = begins MAX_LOOPS; others = λ l far. no_list (λ u. u.opened) refl l }

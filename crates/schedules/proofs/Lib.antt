@@ -19,6 +19,8 @@ pub mod OwnDesk
 pub mod OwnRequests
 pub mod Along
 pub mod OwnRun
+pub mod Begun
 pub mod OneRun
+pub mod ServedStarts
 pub mod ServedReplies
 pub mod ServedLoops

@@ -4,7 +4,7 @@ use Rattle.schedules.proofs.Words.{count_by, Desk, entry_told, eq-eqb, EventStep
 use Rattle.schedules.proofs.Words.{inr, is_failed, is_full, is_of_loop, is_open_request, is_open_stage, is_pending, is_settled, IsLawful, job_of, JobEnd}
 use Rattle.schedules.proofs.Words.{length, length-set, lines_of, List, log_of, LogEntry, Loop, lowest_open, MatchBool, MAX_JOBS, Member, ne_eqb, next_order_of}
 use Rattle.schedules.proofs.Words.{None, Only, Open, Over, over, PostsOrder, pushed, refl, Request, Requests, Running, set_apart, set_here, Setting, slice_get}
-use Rattle.schedules.proofs.Words.{slice_set, Some, Stage, Started, started, Status, Step, StepDid, Stepped, sym, Taken, TakesReplyTo, TellsEnd, times}
+use Rattle.schedules.proofs.Words.{slice_set, Some, Stage, Started, started, Status, Step, StepDid, Stepped, subst, sym, Taken, TakesReplyTo, TellsEnd, times}
 use Rattle.schedules.proofs.Words.{times_grow, true, UnlessFailed, with_loop, with_replies, with_requests, with_stage, with_worker_at, WorkEnd, Worker}
 use Rattle.schedules.proofs.Words.{WorkOrder, World, WorldRun, WorldStep, ℕ, [], ◌&&◌, ◌++◌, ◌+◌, ◌<◌, ◌==◌, ◌∙◌, ◌∷◌, ◌≡◌, ◌≢◌, ◌≤◌, ◌⊎◌}
 use Rattle.order.specs.Work.{IsEndOf}
@@ -17,6 +17,8 @@ use Rattle.world_log.specs.declared.outcome.PostOutcome.TheVariants as post
 use Rattle.world_log.specs.declared.outcome.StartOutcome.TheVariants as start
 use Rattle.world_log.specs.declared.outcome.FinishOutcome.TheVariants as finish
 use Rattle.world_log.specs.declared.outcome.CollectOutcome.TheVariants as collect
+use Rattle.world_log.specs.declared.outcome.JobId.{JobId}
+use Rattle.schedules.proofs.Begun.{jobs_begun, own_begins_none}
 use Rattle.schedules.proofs.FreeSlots.{step_kept}
 use Rattle.schedules.proofs.OwnDesk.{Stands, EndsSo, step_there, now_there}
 use Rattle.schedules.proofs.OwnRequests.{FitsOne, Fits, FitsAt, keeps_fits, fits_staged, fits_settled, find_member, place_of, open_not_settled, times_of_another}
@@ -64,14 +66,15 @@ module _ {S : Type 0} (calls : Calls S) (lawful : IsLawful calls) (g : Setting) 
     pub idle : (k : ℕ) → next ≤ k → k < length w.workers → slice_get w.workers k ≡ Some Idle
     pub room : next + left ≤ length w.workers
 
-  -- from there it goes on to here, and this is logged of it
-  pub record GoesTo (w : World) (l : Loop S) (lines : List LogEntry) (handed : List (ℕ × ℕ)) (next left : ℕ) : Type 0 where
+  -- from there it goes on to here, and this is logged of it, and these jobs are begun
+  pub record GoesTo (w : World) (l : Loop S) (lines : List LogEntry) (begun : List JobId) (handed : List (ℕ × ℕ)) (next left : ℕ) : Type 0 where
     pub steps : List Step
     pub told : List LogEntry
     pub world : World
     pub run : WorldRun w steps told world
     pub at : IsAt world l handed next left
     pub own : log_of n told ≡ lines
+    pub starts : jobs_begun told ≡ begun
     pub beside : IsBesideLoop n w told world
 
   mine : (n == n) ≡ true
@@ -94,7 +97,7 @@ module _ {S : Type 0} (calls : Calls S) (lawful : IsLawful calls) (g : Setting) 
 
       only_loop : WorldStep w s entry w' → is_of_loop n entry ≡ true → ((k : ℕ) → n ≢ k → is_of_loop k entry ≡ false) → is_full entry ≡ false
           → Stands handed gone (calls.view new.shared) e → FitsAt calls lawful g handed gone w.workers new.state.requests new.shared → Few new.state
-          → GoesTo w new (entry ∷ []) handed next left
+          → GoesTo w new (entry ∷ []) [] handed next left
       only_loop moves is others fits stands requests few = record {
         steps = s ∷ [];
         told = entry ∷ [];
@@ -112,6 +115,7 @@ module _ {S : Type 0} (calls : Calls S) (lawful : IsLawful calls) (g : Setting) 
           room = r.room;
         };
         own = own_entry n entry is;
+        starts = own_begins_none n entry is;
         beside = record {
           loops = λ k other. set_apart w.loops n k (core g (over e new)) other;
           replies = λ k other. refl;
@@ -123,7 +127,7 @@ module _ {S : Type 0} (calls : Calls S) (lawful : IsLawful calls) (g : Setting) 
 
     -- a line by which nothing changes
     stays : (s : Step) (entry : LogEntry) → WorldStep w s entry w → is_of_loop n entry ≡ true → ((k : ℕ) → n ≢ k → is_of_loop k entry ≡ false) → is_full entry ≡ false
-        → GoesTo w old (entry ∷ []) handed next left
+        → GoesTo w old (entry ∷ []) [] handed next left
     stays s entry moves is others fits = record {
       steps = s ∷ [];
       told = entry ∷ [];
@@ -131,11 +135,12 @@ module _ {S : Type 0} (calls : Calls S) (lawful : IsLawful calls) (g : Setting) 
       run = (w, moves, refl);
       at = r;
       own = own_entry n entry is;
+      starts = own_begins_none n entry is;
       beside = record { loops = λ k other. refl; replies = λ k other. refl; workers = refl; others = λ k other. other_entry k entry (others k other); none_full = one_not_full entry fits };
     }
 
     -- nothing is done
-    pub rests : GoesTo w old [] handed next left
+    pub rests : GoesTo w old [] [] handed next left
     rests = record {
       steps = [];
       told = [];
@@ -143,6 +148,7 @@ module _ {S : Type 0} (calls : Calls S) (lawful : IsLawful calls) (g : Setting) 
       run = refl;
       at = r;
       own = refl;
+      starts = refl;
       beside = record { loops = λ k other. refl; replies = λ k other. refl; workers = refl; others = λ k other. refl; none_full = refl };
     }
 
@@ -152,7 +158,7 @@ module _ {S : Type 0} (calls : Calls S) (lawful : IsLawful calls) (g : Setting) 
 
     -- a step
     pub stepped : (it : StepDid) (emits : List ℕ) (made : List GuestCall) (new : Loop S) → EventStep calls g (Stepped it emits made) old new → EndsSo handed gone (calls.view new.shared)
-        → GoesTo w new (entry_told n it emits ∷ []) handed next left
+        → GoesTo w new (entry_told n it emits ∷ []) [] handed next left
     stepped it emits made new h ends =
         let there = step_there handed gone calls lawful g old it made new d r.few r.stands h.0 ends in
         only_loop new there.0 (step.Loop n) (entry_told n it emits)
@@ -172,7 +178,7 @@ module _ {S : Type 0} (calls : Calls S) (lawful : IsLawful calls) (g : Setting) 
         (event_few calls g (Stepped it emits made) old new h r.few)
 
     -- the clock
-    pub clocked : (ms : ℕ) → GoesTo w (in_state old (after_clock old.state ms)) (lines_of n old.state (ClockRaised ms)) handed next left
+    pub clocked : (ms : ℕ) → GoesTo w (in_state old (after_clock old.state ms)) (lines_of n old.state (ClockRaised ms)) [] handed next left
     clocked ms = by (is_failed old.state.status) refl where
       new : Loop S
       new = in_state old (after_clock old.state ms)
@@ -182,7 +188,7 @@ module _ {S : Type 0} (calls : Calls S) (lawful : IsLawful calls) (g : Setting) 
       clock_stays Running h = absurd (cc)
       clock_stays Over h = absurd (cc)
 
-      by : (b : Bool) → is_failed old.state.status ≡ b → GoesTo w new (cond b (line.Failed n ∷ []) (line.Clock n (after_clock old.state ms).clock ∷ [])) handed next left
+      by : (b : Bool) → is_failed old.state.status ≡ b → GoesTo w new (cond b (line.Failed n ∷ []) (line.Clock n (after_clock old.state ms).clock ∷ [])) [] handed next left
       by true failed =
           let same : old ≡ new = ap (λ (k : ℕ). in_state old (record old.state { clock = k })) (sym (clock_stays old.state.status failed)) in
           rw (← same) (stays (step.Clock n ms) (line.Failed n) (
@@ -210,7 +216,7 @@ module _ {S : Type 0} (calls : Calls S) (lawful : IsLawful calls) (g : Setting) 
     )
 
     pub asked_none : (b : Bool) → is_failed old.state.status ≡ b → next_order_of old.state ≡ (None, old.state)
-        → GoesTo w old (cond b (line.Failed n ∷ []) (line.Post n post.Nothing ∷ [])) handed next left
+        → GoesTo w old (cond b (line.Failed n ∷ []) (line.Post n post.Nothing ∷ [])) [] handed next left
     asked_none true failed is =
         stays (step.Post n) (line.Failed n) (
           g,
@@ -240,6 +246,9 @@ module _ {S : Type 0} (calls : Calls S) (lawful : IsLawful calls) (g : Setting) 
 
     abbrev c : ℕ × ℕ
     c = place_of q
+
+    abbrev its_job : JobId
+    its_job = record { loop_no = n; request = o.request }
 
     abbrev new : Loop S
     new = in_state old (with_requests old.state (with_stage rs o.request HandedOut))
@@ -344,7 +353,7 @@ module _ {S : Type 0} (calls : Calls S) (lawful : IsLawful calls) (g : Setting) 
         })
         known r.fits.few r.fits
 
-    handed_started : times c gone ≡ 0 → GoesTo w new (posted ∷ []) handed' (1 + next) left
+    handed_started : times c gone ≡ 0 → GoesTo w new (posted ∷ []) (its_job ∷ []) handed' (1 + next) left
     handed_started live = record {
       steps = step.Post n ∷ step.Take next ∷ step.Start next ∷ [];
       told = posted ∷ took ∷ begun ∷ [];
@@ -392,6 +401,7 @@ module _ {S : Type 0} (calls : Calls S) (lawful : IsLawful calls) (g : Setting) 
             omega (arith, room, long, longer);
       };
       own = own_entry n posted mine;
+      starts = ap (λ (l : ℕ). record { loop_no = l; request = o.request } ∷ []) fits_q.mine;
       beside = record {
         loops = λ k other. set_apart (slice_set w.loops n (core g (over r.desk new))) n k (core g (over (started r.desk c) new)) other ∙ set_apart w.loops n k (core g (over r.desk new)) other;
         replies = λ k other. refl;
@@ -401,8 +411,8 @@ module _ {S : Type 0} (calls : Calls S) (lawful : IsLawful calls) (g : Setting) 
       };
     }
 
-    -- a request that will be cancelled stays with its worker
-    handed_taken : 0 < times c gone → GoesTo w new (posted ∷ []) handed' (1 + next) left
+    -- a request that no worker starts stays with the one that took it
+    handed_taken : 0 < times c gone → GoesTo w new (posted ∷ []) [] handed' (1 + next) left
     handed_taken lost = record {
       steps = step.Post n ∷ step.Take next ∷ [];
       told = posted ∷ took ∷ [];
@@ -434,6 +444,7 @@ module _ {S : Type 0} (calls : Calls S) (lawful : IsLawful calls) (g : Setting) 
         room = (let room = r.room in let long = length-set w.workers next (Taken o) in omega (arith, room, long));
       };
       own = own_entry n posted mine;
+      starts = refl;
       beside = record {
         loops = λ k other. set_apart w.loops n k (core g (over r.desk new)) other;
         replies = λ k other. refl;
@@ -443,11 +454,14 @@ module _ {S : Type 0} (calls : Calls S) (lawful : IsLawful calls) (g : Setting) 
       };
     }
 
-    pub hands_out : GoesTo w new (posted ∷ []) handed' (1 + next) left
+    pub hands_out : GoesTo w new (posted ∷ []) (cond (times c gone == 0) (its_job ∷ []) []) handed' (1 + next) left
     hands_out = elim (cases_lt 0 (times c gone)) [
-      | inl lost ↦ handed_taken lost
-      | inr none ↦ handed_started (omega (arith, none))
-    ]
+      | inl lost ↦ goes_by false (ne_eqb (times c gone) 0 (λ none. omega (arith, lost, none))) (handed_taken lost)
+      | inr none ↦ goes_by true (eq-eqb (times c gone) 0 (omega (arith, none))) (handed_started (omega (arith, none)))
+    ] where
+      goes_by : (b : Bool) → (times c gone == 0) ≡ b → GoesTo w new (posted ∷ []) (cond b (its_job ∷ []) []) handed' (1 + next) left
+          → GoesTo w new (posted ∷ []) (cond (times c gone == 0) (its_job ∷ []) []) handed' (1 + next) left
+      goes_by b is h = subst (λ (x : Bool). GoesTo w new (posted ∷ []) (cond x (its_job ∷ []) []) handed' (1 + next) left) (sym is) h
 
   -- a reply is taken, which its worker has just put
   module _ (w : World) (old : Loop S) (handed : List (ℕ × ℕ)) (next left : ℕ) (r : IsAt w old handed next left) (o : WorkOrder) (end : WorkEnd)
@@ -536,7 +550,7 @@ module _ {S : Type 0} (calls : Calls S) (lawful : IsLawful calls) (g : Setting) 
           (λ same. let it = sym busy ∙ sym (ap (slice_get w.workers) same) ∙ working.1 in other (let orders : x.order ≡ o = cc in ap (λ (y : WorkOrder). y.request) orders))
           ∙ busy
 
-      pub takes_reply : GoesTo w after_reply (collected ∷ []) handed next left
+      pub takes_reply : GoesTo w after_reply (collected ∷ []) [] handed next left
       takes_reply = record {
         steps = step.Finish worker ∷ step.Collect n ∷ [];
         told = finished ∷ collected ∷ [];
@@ -556,6 +570,7 @@ module _ {S : Type 0} (calls : Calls S) (lawful : IsLawful calls) (g : Setting) 
           room = (let room = r.room in let long = length-set w.workers worker Idle in omega (arith, room, long));
         };
         own = own_entry n collected mine;
+        starts = refl;
         beside = record {
           loops = λ k other. set_apart w.loops n k (core g (over r.desk after_reply)) other;
           replies = λ k other. set_apart (slice_set w.replies n (reply ∷ [])) n k [] other ∙ set_apart w.replies n k (reply ∷ []) other;

@@ -113,7 +113,7 @@ module _ (g : Setting) where
       ap (λ (b : Bool). b && ((t.slot == o.slot) && (t.request == o.request))) (ne_eqb t.loop_no o.loop_no (λ same. other (same ∙ is)))
   not_asked t _ old new other h own = refl
 
-  none_asked : (t : Ticket) (old : Loop Seats) (events : List Event) (now : Loop Seats) → t.loop_no ≢ g.loop_no → ThreadHistory thread_calls g old events now → Numbered g.loop_no 0 old.state.requests
+  pub none_asked : (t : Ticket) (old : Loop Seats) (events : List Event) (now : Loop Seats) → t.loop_no ≢ g.loop_no → ThreadHistory thread_calls g old events now → Numbered g.loop_no 0 old.state.requests
       → count_by (asks t) events ≡ 0
   none_asked t old [] now other h own = refl
   none_asked t old (e ∷ events) now other h own =
@@ -122,7 +122,7 @@ module _ (g : Setting) where
       let more = none_asked t h.0 events now other h.2 kept in
       sum_by-cons (λ (x : Event). cond {A = ℕ} (asks t x) 1 0) e events ∙ omega (arith, one, more)
 
-  opening_numbered : (l : Loop Seats) → IsOpening thread_calls g l → Numbered g.loop_no 0 l.state.requests
+  pub opening_numbered : (l : Loop Seats) → IsOpening thread_calls g l → Numbered g.loop_no 0 l.state.requests
   opening_numbered l opens = rw opens.state (record { risen = omega arith; own = tt })
 
   opening_handed : (l : Loop Seats) → IsOpening thread_calls g l → IsHanded 0 ⊥ l.state.requests
@@ -184,7 +184,7 @@ all_put_taken : (t : Ticket) (workers : List (List Turn)) → times_in (puts t) 
 all_put_taken t workers = sum_by-le-sum_by (λ (xs : List Turn). count_by (puts t) xs) (λ (xs : List Turn). count_by (takes t) xs) workers (put_taken t)
 
 -- what stands in a list is counted
-counted_at : {X : Type 0} (p : X → Bool) (xs : List X) (i : ℕ) (x : X) → slice_get xs i ≡ Some x → p x ≡ true → 0 < count_by p xs
+pub counted_at : {X : Type 0} (p : X → Bool) (xs : List X) (i : ℕ) (x : X) → slice_get xs i ≡ Some x → p x ≡ true → 0 < count_by p xs
 counted_at p xs i x at is =
     let below = slice_get_within xs i x at in
     counted p xs x is (i, below, same_Some (get_or xs i x) x (sym (slice_get-get_or xs i x below) ∙ at))

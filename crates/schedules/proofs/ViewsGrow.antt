@@ -1,6 +1,6 @@
 -- What a loop knows of the object that it shares only grows, and its own sends are covered by what it took and what waits.
 use Rattle.schedules.proofs.Words.{ap, arith, Bool, Calls, cases_lt, Chain, cond, false, GuestCall, inl, inr, is_pending, IsLawful, length, length-set, List}
-use Rattle.schedules.proofs.Words.{Loop, MAX_ASYNCS, None, Option, raised, Sent, Setting, slice_index, slice_set, Some, Stays, step_retraced, StepDid}
+use Rattle.schedules.proofs.Words.{Loop, MAX_ASYNCS, None, Option, raised, refl, Sent, Setting, slice_index, slice_set, Some, Stays, step_retraced, StepDid}
 use Rattle.schedules.proofs.Words.{steps_keep, StepsWith, subst, sym, TakesOwn, times, times_grow, ToCancel, ToOpen, ToSend, Touch, Touches, true, View, ℕ, []}
 use Rattle.schedules.proofs.Words.{◌++◌, ◌+◌, ◌<◌, ◌==◌, ◌∙◌, ◌∷◌, ◌≡◌, ◌≤◌, ◌⊎◌}
 use Rattle.std.proofs.lemmas.List.{set_past}
@@ -47,16 +47,18 @@ pub record IsWide (v : View) : Type 0 where
 
 pub record Grows (v w : View) : Type 0 where
   pub wide : IsWide w
+  pub same : w.loop_no ≡ v.loop_no
   pub found : (c : ℕ × ℕ) → 0 < times c v.found_started → 0 < times c w.found_started
   pub cancelled : (c : ℕ × ℕ) → 0 < times c v.cancelled → 0 < times c w.cancelled
   pub sends : (a : ℕ) → slice_index w.own a + (slice_index v.taken a + slice_index v.untaken a) ≤ slice_index v.own a + (slice_index w.taken a + slice_index w.untaken a)
 
 pub grows_self : (v : View) → IsWide v → Grows v v
-grows_self v wide = record { wide = wide; found = λ c k. k; cancelled = λ c k. k; sends = λ a. omega arith }
+grows_self v wide = record { wide = wide; same = refl; found = λ c k. k; cancelled = λ c k. k; sends = λ a. omega arith }
 
 pub grows_on : (u v w : View) → Grows u v → Grows v w → Grows u w
 grows_on u v w h k = record {
   wide = k.wide;
+  same = k.same ∙ h.same;
   found = λ c some. k.found c (h.found c some);
   cancelled = λ c some. k.cancelled c (h.cancelled c some);
   sends = λ a. let x = h.sends a in let y = k.sends a in omega (arith, x, y);
@@ -66,6 +68,7 @@ grows_on u v w h k = record {
 pub opened_grows : (v w : View) (c : ℕ × ℕ) → Opened v w c → IsWide v → Grows v w
 opened_grows v w c h wide = subst (Grows v) (sym h) (record {
   wide = record { own = wide.own; taken = wide.taken; untaken = wide.untaken };
+  same = refl;
   found = λ x k. k;
   cancelled = λ x k. k;
   sends = λ a. omega arith;
@@ -74,6 +77,7 @@ opened_grows v w c h wide = subst (Grows v) (sym h) (record {
 pub cancelled_grows : (v w : View) (c : ℕ × ℕ) (won : Bool) → Cancelled v w c won → IsWide v → Grows v w
 cancelled_grows v w c true h wide = subst (Grows v) (sym h.0) (record {
   wide = record { own = wide.own; taken = wide.taken; untaken = wide.untaken };
+  same = refl;
   found = λ x k. k;
   cancelled = λ x k. times_grow x c v.cancelled k;
   sends = λ a. omega arith;
@@ -82,6 +86,7 @@ cancelled_grows v w c false h wide = subst (Grows v) (sym h) (by (is_pending v.o
   by : (b : Bool) → Grows v (cond b (record v { found_started = v.found_started ++ c ∷ [] }) v)
   by true = record {
     wide = record { own = wide.own; taken = wide.taken; untaken = wide.untaken };
+    same = refl;
     found = λ x k. times_grow x c v.found_started k;
     cancelled = λ x k. k;
     sends = λ a. omega arith;
@@ -91,6 +96,7 @@ cancelled_grows v w c false h wide = subst (Grows v) (sym h) (by (is_pending v.o
 pub sent_grows : (v w : View) (a : ℕ) (ok : Bool) → Sent v w a ok → IsWide v → Grows v w
 sent_grows v w a true h wide = subst (Grows v) (sym h.0) (record {
   wide = record { own = length-raised v.own a 1 ∙ wide.own; taken = wide.taken; untaken = length-raised v.untaken a 1 ∙ wide.untaken };
+  same = refl;
   found = λ x k. k;
   cancelled = λ x k. k;
   sends = λ b. let it = raised_alike v.own v.untaken a b (wide.own ∙ sym wide.untaken) in omega (arith, it);
@@ -100,6 +106,7 @@ sent_grows v w a false h wide = subst (Grows v) (sym h.0) (grows_self v wide)
 pub taken_grows : (v w : View) (a n : ℕ) → Taken v w a n → IsWide v → Grows v w
 taken_grows v w a n h wide = subst (Grows v) (sym h.0) (record {
   wide = record { own = wide.own; taken = length-raised v.taken a n ∙ wide.taken; untaken = length-set v.untaken a 0 ∙ wide.untaken };
+  same = refl;
   found = λ x k. k;
   cancelled = λ x k. k;
   sends = λ b. let it = taken_alike v.taken v.untaken a n b (wide.taken ∙ sym wide.untaken) h.2 in omega (arith, it);

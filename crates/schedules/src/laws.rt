@@ -5,7 +5,6 @@ ghost use Rattle.schedules.specs.Served.{IsInThreads};
 ghost use Rattle.schedules.specs.Together.{AreOneRun};
 
 use phases::Shared;
-use pool::Seats;
 
 /// A step of a loop over its desk is one that makes some accesses, which lead from that desk to the next; and each such
 /// is a step over the desk. So splitting a step into its accesses loses none, and adds none where nothing comes between.
@@ -51,9 +50,12 @@ pub fn one_run<B: Shared>()
     world::laws::runs_join();
 }
 
-/// So where `serve` gives one account of all its threads, its very histories are one run of threads, and so one of a world.
+/// So where `serve` gives one account of all its threads, its very histories are one run of threads, and so one of a world, whose
+/// workers begin just what the workers of `serve` have started. A loop takes a reply to such a request alone.
 pub fn of_serve()
     ensures { IsInThreads }
 {
-    one_run::<Seats<'_>>();
+    as_in_world();
+    of_threads();
+    world::laws::runs_join();
 }

@@ -1,11 +1,12 @@
 -- What is known of all passes and all seats once their threads have ended.
 use Rattle.serve.proofs.Words.{All, AreNumbered, AreRepliesWhole, arith, BoardView, ClaimsView, DidTurns, EachOnce, EachPair, flat_map, HasNumber}
-use Rattle.serve.proofs.Words.{inl, inr, IsPassOf, IsServed, IsSettled, IsWhole, JointRun, length, List, Loaded, LoopEnds, LoopView, map, PassView, Served, Serving, setting_at}
+use Rattle.serve.proofs.Words.{inl, inr, IsPassOf, IsServed, IsWhole, JointRun, length, List, Loaded, LoopEnds, LoopView, map, PassView, Served, Serving, setting_at}
 use Rattle.serve.proofs.Words.{EachFrom, EachThree, get_or, suc, [], ◌∷◌}
 use Rattle.serve.proofs.Words.{slice_get, slice_get-get_or, Some, Ticket, WorkerEnds, WorkerView, ℕ, ∥∥₁_map, ∥∥₁_map₂, ◌++◌, ◌+◌, ◌≡◌}
 use Rattle.serve.specs.Answers.{EachServed}
 use Rattle.serve.proofs.Lookups.{split_at}
 use Rattle.serve.specs.Inner.Ends.{IsUnjoined}
+use Rattle.serve.specs.Joint.{IsSettledWith}
 use Rattle.serve.proofs.NumberedLists.{all_from, thirds, with_thirds, each_get, pair_lengths, pair_map, firsts, seconds}
 use Rattle.serve.proofs.Together.{EndedWith, out, together}
 
@@ -67,10 +68,6 @@ module _ {J : Type 0} (ticket : J → Ticket) (loaded : Loaded) (serving : Servi
     all_claims = all_by (λ (s : WorkerView). s.claims ≡ claims.id) seats
         (λ k s at. each_get (λ n (x : WorkerView). x.claims ≡ claims.id) seats k s (seconds EndsWorker (λ n (x : WorkerView). x.claims ≡ claims.id) (λ n p x e. e.of_claims) 0 wp seats ws) at)
 
-    pub all_once : All (λ (s : WorkerView). EachOnce s.started) seats
-    all_once = all_by (λ (s : WorkerView). EachOnce s.started) seats
-        (λ k s at. each_get (λ n (x : WorkerView). EachOnce x.started) seats k s (seconds EndsWorker (λ n (x : WorkerView). EachOnce x.started) (λ n p x e. e.once) 0 wp seats ws) at)
-
     pub as_many_loops : length served ≡ length lp
     as_many_loops = pair_lengths EndsLoop 0 served lp ls
 
@@ -82,7 +79,7 @@ module _ {J : Type 0} (ticket : J → Ticket) (loaded : Loaded) (serving : Servi
         each_get (λ n x. IsServed (setting_at loaded serving n) x) served k s
         (firsts EndsLoop (λ n x. IsServed (setting_at loaded serving n) x) (λ n x p e. record { numbered = e.2.numbered; ended = ∥∥₁_map e.2.did (λ d. d.ended) }) 0 served lp ls) at
 
-    pub jointly : (crew : WorkerView) → crew.claims ≡ claims.id → ((k : ℕ) (q : LoopView) → P k q → IsSettled (record q { joined = crew.started })) → length served ≡ serving.loops → length wp ≡ serving.workers → crew.started ≡ flat_map (λ s. s.started) seats → EachOnce crew.started
+    pub jointly : (crew : WorkerView) → crew.claims ≡ claims.id → ((k : ℕ) (q : LoopView) → P k q → IsSettledWith crew.started q) → length served ≡ serving.loops → length wp ≡ serving.workers → crew.started ≡ flat_map (λ s. s.started) seats → EachOnce crew.started
         → IsWhole (map (λ p. p.jobs) (lp ++ wp)) → AreRepliesWhole serving.loops (lp ++ wp) → ∥ JointRun loaded serving served crew ∥₁
     jointly crew own settled few size started once jobs replies =
         ∥∥₁_map₂

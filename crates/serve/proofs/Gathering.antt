@@ -1,5 +1,5 @@
--- The seats of workers, taken into one from the last on.
-use Rattle.serve.proofs.Words.{All, ap, append-nil, append_assoc, arith, flat_map, flat_map-append, get_or, length, length_push, List, refl, subst, sym, Ticket}
+-- The seats of workers, taken into one, and those of loops, from the last on.
+use Rattle.serve.proofs.Words.{All, ap, append_assoc, arith, flat_map, get_or, length, length_push, List, refl, subst, suc, sym, Ticket}
 use Rattle.serve.proofs.Words.{WorkerView, [], ◌++◌, ◌∙◌, ◌∷◌, ◌≡◌}
 use Rattle.std.proofs.lemmas.List.{get_or_push}
 use Rattle.std.proofs.lemmas.List.Elements.{All-push}
@@ -22,14 +22,14 @@ module _ {A : Type 0} (P : A → Type 0) where
 abbrev started : List WorkerView → List Ticket
 started seats = flat_map (λ (s : WorkerView). s.started) seats
 
-last_started : (seats front : List WorkerView) (seat : WorkerView) → seats ≡ front ++ seat ∷ [] → started seats ≡ started front ++ seat.started
-last_started seats front seat e =
-    ap started e ∙ flat_map-append (λ (s : WorkerView). s.started) front (seat ∷ []) ∙ ap (λ xs. started front ++ xs) (append-nil seat.started)
+-- one seat more is taken in
+pub one_gathered : (rest more : List WorkerView) (seat : WorkerView) (crew new all : List Ticket) → rest ≡ seat ∷ more → new ≡ crew ++ seat.started
+    → crew ++ started rest ≡ all → new ++ started more ≡ all
+one_gathered rest more seat crew new all e joined was =
+    ap (λ xs. xs ++ started more) joined ∙ append_assoc crew seat.started (started more) ∙ ap (λ xs. crew ++ started xs) (sym e) ∙ was
 
-pub first_gathered : (seats front : List WorkerView) (crew : WorkerView) → seats ≡ front ++ crew ∷ [] → started front ++ crew.started ≡ started seats
-first_gathered seats front crew e = sym (last_started seats front crew e)
-
-pub one_gathered : (seats front : List WorkerView) (seat crew new : WorkerView) (all : List Ticket) → seats ≡ front ++ seat ∷ [] → new.started ≡ seat.started ++ crew.started
-    → started seats ++ crew.started ≡ all → started front ++ new.started ≡ all
-one_gathered seats front seat crew new all e joined was =
-    ap (λ xs. started front ++ xs) joined ∙ sym (append_assoc (started front) seat.started crew.started) ∙ ap (λ xs. xs ++ crew.started) (sym (last_started seats front seat e)) ∙ was
+-- the first of them, and the others
+pub first_and_rest : {A : Type 0} (P : A → Type 0) (rest more : List A) (x : A) → rest ≡ x ∷ more → All P rest → P x × All P more
+first_and_rest P rest more x e all =
+    let each = subst (All P) e all in
+    (each 0 x (omega arith), λ k d below. each (suc k) d (omega arith))

@@ -1,12 +1,12 @@
 -- What passes and seats say of all loops and all workers, once all were taken in.
 use Rattle.serve.proofs.Words.{ap, append-nil, AreHandsOf, AreRepliesWhole, arith, asks, Bool, cond, count_by, count_cons, DidEvents, DidTurns, EachOnce}
-use Rattle.serve.proofs.Words.{EachPair, end_of, EndOffered, Event, false, flat_map, FoundBehind, HandView, HasEnded, inl, inr, is_ticket, IsSettled, IsTied, IsWhole, LoopView}
+use Rattle.serve.proofs.Words.{EachPair, end_of, EndOffered, Event, false, flat_map, FoundBehind, HandView, HasEnded, inl, inr, is_ticket, IsTied, IsWhole, LoopView}
 use Rattle.serve.proofs.Words.{JointRun, length, List, Loaded, map, Named, offer_of, offered_in, order_of, passed_of, PassView, Put, put_for, refl, Reply}
 use Rattle.serve.proofs.Words.{same_Some, Served, Serving, setting_at, slice_get, Some, started_by, subst, suc, sym, thread_calls, Ticket, true, Turn, WorkEnd}
 use Rattle.serve.proofs.Words.{WorkerView, WorkOrder, zero, ℕ, [], ∥∥₁_map₂, ◌++◌, ◌+◌, ◌<◌, ◌==◌, ◌∙◌, ◌∷◌, ◌≡◌, ◌≤◌, ◌⊎◌}
 use Rattle.atomic_table.specs.Seated.{TableId}
 use Rattle.serve.specs.HandedOut.{OnlyPosts}
-use Rattle.serve.specs.Joint.{AreOneClaims, IsPut, puts, is_offered, ticket_for, times_in}
+use Rattle.serve.specs.Joint.{AreOneClaims, IsSettledWith, IsPut, puts, is_offered, ticket_for, times_in}
 use Rattle.serve.proofs.JointCounts.{Pairs, count_map, PostsWithin, TakesThese, PutsNone, PutsThese, taken_within, offered_within}
 use Rattle.serve.proofs.Lookups.{not_there, is_within, front_at, split_at, by_index, to_index, map_at, map_back}
 
@@ -116,7 +116,7 @@ module _ {J : Type 0} (ticket : J → Ticket) (loaded : Loaded) (serving : Servi
   -- what a loop of this number did, with a seat of these claims, which is settled with what workers have started
   abbrev pub EndedWith : (started : List Ticket) → ℕ → Served → PassView J → Type 0
   EndedWith started k s p =
-      (seat : LoopView) × DidEvents ticket (setting_at loaded serving k) s.ending s.emits.items p seat × (seat.claims ≡ claims) × IsSettled (record seat { joined = started })
+      (seat : LoopView) × DidEvents ticket (setting_at loaded serving k) s.ending s.emits.items p seat × (seat.claims ≡ claims) × IsSettledWith started seat
 
   abbrev DidWorker : ℕ → PassView J → WorkerView → Type 0
   DidWorker w p seat = DidTurns ticket p seat
@@ -182,8 +182,8 @@ module _ {J : Type 0} (ticket : J → Ticket) (loaded : Loaded) (serving : Servi
         × FoundBehind [] (passed_of (setting_at loaded serving k) ended.done) × AreOneClaims ended.now.shared.loop_seat crew
         × OnlyPosts [] ended.done.start (passed_of (setting_at loaded serving k) ended.done)
 
-    one_table : (q seat : LoopView) → seat ≡ q → q.claims ≡ claims → IsSettled (record q { joined = crew.started }) → AreOneClaims seat crew
-    one_table q seat is of settled = subst (λ x. AreOneClaims x crew) (sym is) (record { claims = of ∙ sym own_crew; settled = settled })
+    one_table : (q seat : LoopView) → seat ≡ q → q.claims ≡ claims → IsSettledWith crew.started q → AreOneClaims seat crew
+    one_table q seat is of settled = subst (λ x. AreOneClaims x crew) (sym is) (record { claims = of ∙ sym own_crew; with_crew = settled })
 
     does_at : (k : ℕ) (s : Served) (events : List Event) → slice_get served k ≡ Some s → slice_get loops k ≡ Some events → DoesAt k s events
     does_at k s events at e =

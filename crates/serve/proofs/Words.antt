@@ -3,7 +3,7 @@ pub use Rattle.board.specs.Boards.{AreHandsOf, AreNumbered, AreRepliesWhole, Boa
 pub use Rattle.board.specs.Jobs.{ticket_of}
 pub use Rattle.board.specs.Views.{HandView, IsWhole}
 pub use Rattle.board.specs.declared.line.Named.{Named}
-pub use Rattle.claims.specs.Views.{ClaimsView, EachOnce, IsSettled, is_ticket, LoopView, new_loop_view, new_worker_view, WorkerView}
+pub use Rattle.claims.specs.Views.{ClaimsView, CrewView, EachOnce, is_ticket, LoopView, new_loop_view, new_worker_view, WorkerView}
 pub use Rattle.claims.specs.declared.seats.Ticket.{Ticket}
 pub use Rattle.events.specs.declared.did.StepDid.{StepDid}
 pub use Rattle.events.specs.declared.ended.Ended.{Ended}

@@ -2,7 +2,7 @@
 use Rattle.std.specs.Prelude.{◌≡◌, ℕ, ◌≤◌, Bool, false, List, [], length, flat_map, count_by, sum_by, Some, slice_get}
 use Rattle.syntax.specs.Loaded.{Loaded}
 use Rattle.claims.specs.declared.seats.Ticket.{Ticket}
-use Rattle.claims.specs.Views.{LoopView, WorkerView, EachOnce, IsSettled, is_ticket}
+use Rattle.claims.specs.Views.{LoopView, WorkerView, EachOnce, IsSettled, IsFoundByJoined, is_ticket}
 use Rattle.order.specs.Orders.{order_of, end_of}
 use Rattle.order.specs.Work.{WorkOrder, WorkEnd}
 use Rattle.order.specs.declared.reply.Reply.{Reply}
@@ -45,16 +45,22 @@ IsPut workers o end =
     (w j : ℕ) × (turns : List Turn) × (reply : Reply) × (slice_get workers w ≡ Some turns) × (slice_get turns j ≡ Some (Put reply))
     × (order_of reply.order ≡ o) × (end_of reply.outcome ≡ end)
 
+-- with what workers have started the loop's seat is settled, and they have started all that it found started
+pub record IsSettledWith (started : List Ticket) (seat : LoopView) : Type 0 where
+  pub settled : IsSettled (record seat { joined = started })
+  pub found : IsFoundByJoined (record seat { joined = started })
+
 -- A loop's seat and the crew's are of one table of claims. As the loop has joined no worker's seat, what it knows with the crew's is
--- settled: each request was started once at most, having been posted, or cancelled, and never both.
+-- settled: each request was started once at most, having been posted, or cancelled, and never both. What it found started, a worker of
+-- the crew has started.
 pub record AreOneClaims (seat : LoopView) (crew : WorkerView) : Type 0 where
   pub claims : seat.claims ≡ crew.claims
-  pub settled : IsSettled (record seat { joined = crew.started })
+  pub with_crew : IsSettledWith crew.started seat
 
 -- There are a history of each loop, which its answer reports, and in which the loop has found started only what it had handed out
 -- before, and its thread did nothing beside it but post such requests; and the turns of each worker, in order, which started just what the crew's seats have started, worker by worker: each
--- ticket once. The seat with which a loop has ended is of the same claims as the crew's: what it cancelled no worker started, and what a
--- worker started of its requests it had posted. Of every ticket workers took, all together, at most as many jobs as its order was handed out. Of every ticket a loop
+-- ticket once. The seat with which a loop has ended is of the same claims as the crew's: what it cancelled no worker started, what a
+-- worker started of its requests it had posted, and what it found started a worker has started. Of every ticket workers took, all together, at most as many jobs as its order was handed out. Of every ticket a loop
 -- was offered at most as many replies as workers put, all together; each is to a request of its own, and in all fields one that a
 -- worker put.
 pub record JointRun (loaded : Loaded) (serving : Serving) (served : List Served) (crew : WorkerView) : Type 0 where

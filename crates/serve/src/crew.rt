@@ -2,10 +2,11 @@
 
 ghost use Rattle.std.specs.Prelude.{◌≡◌, ◌<◌, ◌≤◌, ◌+◌, [], All, flat_map, length, vec_capacity, IfOk, OnOk};
 ghost use Rattle.std.specs.Thread.{IsSync};
-ghost use Rattle.claims.specs.Views.{EachOnce, IsSettled, new_worker_view};
+ghost use Rattle.claims.specs.Views.{EachOnce, new_crew_view};
 ghost use Rattle.serve.specs.Inner.Ends.{IsUnjoined, WorkerEnds};
 ghost use Rattle.serve.specs.Inner.Places.{EachFrom, EachDown, EachPair};
 ghost use Rattle.serve.specs.Inner.Promises.{IsWorkerThreadOf};
+ghost use Rattle.serve.specs.Joint.{IsSettledWith};
 
 use crate::job::Job;
 use crate::place::WorkerPlace;
@@ -105,42 +106,31 @@ pub fn join_workers<'s, R: Threads, J: Job>(
     }
 }
 
-/// Takes the seats of all workers into the first one's.
-pub fn gather_seats(claims: &Claims, mut seats: Vec<WorkerSeat>) -> WorkerSeat
-    requires one { 0 < length seats.items }
+/// Takes the seats of all workers into the crew's, in order.
+pub fn gather_seats(claims: &Claims, mut crew: CrewSeat, seats: Vec<WorkerSeat>) -> CrewSeat
+    requires crew { crew ≡ new_crew_view claims.now.id (length seats.items) }
     requires own { All (λ s. s.claims ≡ claims.now.id) seats.items }
-    requires once { All (λ s. EachOnce s.started) seats.items }
     ensures claims { result.claims ≡ claims.now.id }
+    ensures missing { result.missing ≡ 0 }
     ensures started { result.started ≡ flat_map (λ s. s.started) seats.items }
     ensures once { EachOnce result.started }
 {
-    let Some(mut crew) = seats.pop() else {
-        unreachable!()
-    };
-    while let Some(mut seat) = seats.pop() {
-        claims.gather(&mut seat, crew);
-        crew = seat;
+    for seat in seats {
+        claims.take(&mut crew, seat);
     }
     crew
 }
 
 /// Shows each loop what the workers have started, and gives their seat back.
-pub fn settle_loops(
-    claims: &Claims,
-    mut gathering: CrewSeat,
-    crew: WorkerSeat,
-    mut seats: Vec<LoopSeat>,
-) -> WorkerSeat
-    requires gathering { gathering ≡ new_worker_view claims.now.id 0 }
-    requires crew { crew.claims ≡ claims.now.id }
+pub fn settle_loops(claims: &Claims, mut crew: CrewSeat, mut seats: Vec<LoopSeat>) -> WorkerSeat
+    requires crew { (crew.claims ≡ claims.now.id) × (crew.missing ≡ 0) }
     requires own { All (λ s. IsUnjoined claims.now.id s) seats.items }
     ensures claims { result.claims ≡ claims.now.id }
     ensures started { result.started ≡ crew.started }
-    ensures settled { All (λ s. IsSettled (record s { joined = crew.started })) seats.items }
+    ensures settled { All (λ s. IsSettledWith crew.started s) seats.items }
 {
-    claims.take(&mut gathering, crew);
     while let Some(mut seat) = seats.pop() {
-        gathering = claims.settle(gathering, &mut seat);
+        crew = claims.settle(crew, &mut seat);
     }
-    claims.as_worker(gathering)
+    claims.as_worker(crew)
 }

@@ -2,7 +2,7 @@
 
 ghost use Rattle.std.specs.Prelude.{◌≡◌, ◌+◌, length, IfOk};
 ghost use Rattle.std.specs.Arc.{arc_value};
-ghost use Rattle.claims.specs.Views.{AreNewLoops, AreNewWorkers, new_worker_view};
+ghost use Rattle.claims.specs.Views.{AreNewLoops, AreNewWorkers, new_crew_view};
 ghost use Rattle.board.specs.Boards.{IsNewGathering};
 ghost use Rattle.serve.specs.Answers.{EachServed};
 ghost use Rattle.serve.specs.Histories.{setting_at};
@@ -152,7 +152,7 @@ fn with_board<
 ) -> Result<JointlyServed, AllocError>
     requires make { M.IsAlwaysCallable service.now.make.now }
     requires claims { claims.now.loops ≡ plan.now.serving.loops }
-    requires crew { crew ≡ new_worker_view claims.now.id 0 }
+    requires crew { crew ≡ new_crew_view claims.now.id plan.now.serving.workers }
     requires loop_seats { AreNewLoops claims.now.id plan.now.serving.loops loop_seats.items }
     requires worker_seats { AreNewWorkers claims.now.id plan.now.serving.workers worker_seats.items }
     ensures count { IfOk result (λ all. length all.served.items ≡ plan.now.serving.loops) }
@@ -177,7 +177,7 @@ fn gathered<J: Job>(
 ) -> Result<JointlyServed, AllocError>
     requires loops { (length board.now.replies ≡ plan.now.serving.loops) × (claims.now.loops ≡ plan.now.serving.loops) }
     requires gathering { IsNewGathering board.now (plan.now.serving.loops + plan.now.serving.workers) gathering }
-    requires crew { crew ≡ new_worker_view claims.now.id 0 }
+    requires crew { crew ≡ new_crew_view claims.now.id plan.now.serving.workers }
     requires loops_count { length ended.served.items ≡ plan.now.serving.loops }
     requires loops_end { EachLoopEnds J.ticket board.now claims.now.id (planned plan.now) ended.served.items ended.loops.items ended.loop_seats.items }
     requires workers_count { length ended.workers.items ≡ plan.now.serving.workers }
@@ -195,6 +195,6 @@ fn gathered<J: Job>(
     } = ended;
     passes.append(&mut workers)?;
     board.gather_all(gathering, passes);
-    let crew = settle_loops(claims, crew, gather_seats(claims, seats), loop_seats);
+    let crew = settle_loops(claims, gather_seats(claims, crew, seats), loop_seats);
     Ok(JointlyServed { served, crew })
 }

@@ -1,6 +1,7 @@
-use Rattle.serve.proofs.Words.{All, ap, arc_value, AreNumbered, AreRepliesWhole, arith, EachOnce, IsPassOf, IsSettled, length, LoopView, ℕ, subst, sym, ◌+◌, ◌∙◌, ◌≡◌}
+use Rattle.serve.proofs.Words.{All, ap, arc_value, AreNumbered, AreRepliesWhole, arith, EachOnce, IsPassOf, length, LoopView, ℕ, subst, sym, ◌+◌, ◌∙◌, ◌≡◌}
 use Rattle.std.proofs.lemmas.List.{length-append}
-use Rattle.serve.proofs.Gathered.{all_unjoined, anyhow, from_all, seated, all_own, all_numbered, all_claims, all_once, some_seats, as_many_loops, each_served, jointly}
+use Rattle.serve.specs.Joint.{IsSettledWith}
+use Rattle.serve.proofs.Gathered.{all_unjoined, anyhow, from_all, seated, all_own, all_numbered, all_claims, some_seats, as_many_loops, each_served, jointly}
 use Rattle.serve.proofs.joint.gathered.Goals as goal
 
 pub gather_all-requires-clause-new : goal.gather_all-requires-clause-new
@@ -30,26 +31,20 @@ gather_all-requires-clause-numbers g c =
     (all_numbered g.J.Job.ticket (arc_value plan.linked) plan.serving c.args.board.now c.args.claims.now e.served.items e.loops.items e.workers.items e.seats.items (λ k q. Unit {0}) (anyhow g.J.Job.ticket (arc_value plan.linked) plan.serving c.args.board.now c.args.claims.now e.served.items e.loops.items e.loop_seats.items c.requires.loops_end) c.requires.workers_end
     (c.requires.loops.1 ∙ sym c.requires.loops_count))
 
-pub gather_seats-requires-clause-one : goal.gather_seats-requires-clause-one
-gather_seats-requires-clause-one g c =
+pub gather_seats-requires-clause-crew : goal.gather_seats-requires-clause-crew
+gather_seats-requires-clause-crew g c =
     let e = c.args.ended in
     let plan = c.args.plan.now in
     let size = some_seats g.J.Job.ticket (arc_value plan.linked) plan.serving c.args.board.now c.args.claims.now e.served.items e.loops.items e.workers.items e.seats.items (λ k q. Unit {0}) (anyhow g.J.Job.ticket (arc_value plan.linked) plan.serving c.args.board.now c.args.claims.now e.served.items e.loops.items e.loop_seats.items c.requires.loops_end) c.requires.workers_end in
     let crew = c.requires.workers_count in
-    let some = plan.serving.few_workers.0 in
-    omega arith
+    let all : plan.serving.workers ≡ length e.seats.items = omega arith in
+    rw all at c.requires.crew
 
 pub gather_seats-requires-clause-own : goal.gather_seats-requires-clause-own
 gather_seats-requires-clause-own g c =
     let e = c.args.ended in
     let plan = c.args.plan.now in
     all_claims g.J.Job.ticket (arc_value plan.linked) plan.serving c.args.board.now c.args.claims.now e.served.items e.loops.items e.workers.items e.seats.items (λ k q. Unit {0}) (anyhow g.J.Job.ticket (arc_value plan.linked) plan.serving c.args.board.now c.args.claims.now e.served.items e.loops.items e.loop_seats.items c.requires.loops_end) c.requires.workers_end
-
-pub gather_seats-requires-clause-once : goal.gather_seats-requires-clause-once
-gather_seats-requires-clause-once g c =
-    let e = c.args.ended in
-    let plan = c.args.plan.now in
-    all_once g.J.Job.ticket (arc_value plan.linked) plan.serving c.args.board.now c.args.claims.now e.served.items e.loops.items e.workers.items e.seats.items (λ k q. Unit {0}) (anyhow g.J.Job.ticket (arc_value plan.linked) plan.serving c.args.board.now c.args.claims.now e.served.items e.loops.items e.loop_seats.items c.requires.loops_end) c.requires.workers_end
 
 pub settle_loops-crew-requires-clause-own : goal.settle_loops-crew-requires-clause-own
 settle_loops-crew-requires-clause-own g c =
@@ -72,9 +67,9 @@ returns-clause-joint g c =
     let replies = rw c.requires.loops.0 at (subst (AreRepliesWhole (length c.args.board.now.replies)) items c.gather_all.ensures.replies) in
     let crew = c.settle_loops-crew.ensures in
     let all = c.gather_seats.ensures in
-    let P : ℕ → LoopView → Type 0 = λ k q. IsSettled (record q { joined = c.gather_seats.result.started }) in
+    let P : ℕ → LoopView → Type 0 = λ k q. IsSettledWith c.gather_seats.result.started q in
     jointly g.J.Job.ticket (arc_value plan.linked) plan.serving c.args.board.now c.args.claims.now e.served.items e.loops.items e.workers.items e.seats.items P
     (seated g.J.Job.ticket (arc_value plan.linked) plan.serving c.args.board.now c.args.claims.now e.served.items e.loops.items e.loop_seats.items c.requires.loops_end P
-    (from_all (λ (q : LoopView). IsSettled (record q { joined = c.gather_seats.result.started })) e.loop_seats.items crew.settled))
-    c.requires.workers_end c.settle_loops-crew.result crew.claims (λ k q h. subst (λ xs. IsSettled (record q { joined = xs })) (sym crew.started) h)
+    (from_all (λ (q : LoopView). IsSettledWith c.gather_seats.result.started q) e.loop_seats.items crew.settled))
+    c.requires.workers_end c.settle_loops-crew.result crew.claims (λ k q h. subst (λ xs. IsSettledWith xs q) (sym crew.started) h)
     c.requires.loops_count c.requires.workers_count (crew.started ∙ all.started) (subst EachOnce (sym crew.started) all.once) whole replies

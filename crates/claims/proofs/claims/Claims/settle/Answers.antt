@@ -1,5 +1,5 @@
 use Rattle.std.proofs.Common.{sym, ap, ◌∙◌, arith}
-use Rattle.claims.proofs.Allowed.{joins_all_allowed, looks_allowed, gives_back_allowed}
+use Rattle.claims.proofs.Allowed.{joins_all_allowed, looks_allowed, gives_back_allowed, shows_found}
 use Rattle.claims.proofs.claims.Claims.settle.Goals as goal
 
 pub join_seat-requires : goal.join_seat-requires
@@ -23,3 +23,10 @@ split_seat-seat-requires c =
     let some_made = c.crew.invariant.1.makes in
     let made = ap (λ v. v.made) (c.load.ensures.2.0 ∙ ap (λ m. m.0) c.join_seat.ensures.2) in
     (c.load.ensures.0 ∙ c.join_seat.ensures.0 ∙ mine, omega (arith, c.self.invariant.1), gives_back_allowed _ _ (rw made some_made))
+
+pub returns-clause-found : goal.returns-clause-found
+returns-clause-found c = λ none.
+    let i = c.seat.inside in
+    let told = c.load.ensures.2 in
+    shows_found i.seat.table_id _ i.loop_no i.is_posting i.seat.me.0 c.crew.inside.seat.me.0 _ _ _ c.seat.view_is c.crew.view_is c.requires.none (told.0 ∙ ap (λ m. m.0) c.join_seat.ensures.2) c.seat.invariant.0
+    c.crew.invariant.1.makes told.2 none

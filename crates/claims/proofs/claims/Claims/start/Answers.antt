@@ -12,7 +12,7 @@ compare_exchange-found-requires c =
     let place = c.word_index-word.ensures in (
       own,
       omega arith,
-      starts_at _ _ _ c.args.ticket.loop_no c.args.ticket.slot c.args.ticket.request _ _ _ place c.word_of-old.ensures c.word_of-new.ensures real low,
+      starts_at _ _ _ c.args.ticket.loop_no c.args.ticket.slot c.args.ticket.request _ _ _ place c.word_of-old.ensures c.word_of-new.ensures real low c.seat.invariant.1.share,
     )
 
 pub invariant_of-seat : goal.invariant_of-seat

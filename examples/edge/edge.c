@@ -1,14 +1,11 @@
 /* An HTTP server that runs a module for each tenant, within limits, on libuv and an HTTP parser. README.md is its manual; edge.h says where to
  * start reading. This part starts it, shuts it down, and finds out what a request is for. */
-#include <arpa/inet.h>
 #include <ctype.h>
 #include <malloc.h>
 #include <signal.h>
 #include <stdlib.h>
 #include <string.h>
 #include <sys/resource.h>
-#include <sys/socket.h>
-#include <sys/un.h>
 #include <unistd.h>
 #include "http.h"
 
@@ -21,15 +18,16 @@ bool ending, draining;
 static uint64_t grace;
 static uv_timer_t drain;
 
-static const char *address = "127.0.0.1";
 static uv_timer_t sweeper;
 
-/* The number up to `most` that a text spells, or UINT64_MAX. */
-uint64_t number_of(const char *text, uint64_t most) {
+static uint64_t number_in(int base, const char *text, uint64_t most) {
     char *end;
-    uint64_t n = strtoull(text, &end, 10);
+    uint64_t n = strtoull(text, &end, base);
     return isdigit((unsigned char)*text) && !*end && n <= most ? n : UINT64_MAX;
 }
+
+/* The number up to `most` that a text spells, or UINT64_MAX. */
+uint64_t number_of(const char *text, uint64_t most) { return number_in(10, text, most); }
 
 /* The headers of a request are complete: finds out its tenant and what it is for. Returns whether its body is needed: if not, it is answered. */
 bool wants_all(client *c) {
@@ -90,18 +88,6 @@ static void on_sweep(uv_timer_t *timer) {
     if (ending && clients == 0 && LIST_EMPTY(&tenants)) uv_timer_stop(timer);
 }
 
-/* Tells systemd (sd_notify's protocol: a datagram to $NOTIFY_SOCKET). */
-static void notify(const char *what) {
-    struct sockaddr_un to = { .sun_family = AF_UNIX };
-    const char *path = getenv("NOTIFY_SOCKET");
-    int fd = path && strlen(path) < sizeof to.sun_path ? socket(AF_UNIX, SOCK_DGRAM | SOCK_CLOEXEC, 0) : -1;
-    if (fd < 0) return;
-    strcpy(to.sun_path, path);
-    if (*path == '@') to.sun_path[0] = 0;
-    sendto(fd, what, strlen(what), MSG_NOSIGNAL, (struct sockaddr *)&to, (socklen_t)(offsetof(struct sockaddr_un, sun_path) + strlen(path)));
-    close(fd);
-}
-
 static void end(uv_timer_t *timer) {
     (void)timer;
     if (!ending) serve_no_more();
@@ -118,9 +104,14 @@ static void on_signal(uv_signal_t *signal, int number) {
     draining = true;
 }
 
+/* Between the two notifications systemd takes it for reloading: `systemctl reload` waits for the second. */
 static void on_reload(uv_signal_t *signal, int number) {
+    char told[64];
     (void)signal, (void)number;
+    snprintf(told, sizeof told, "RELOADING=1\nMONOTONIC_USEC=%llu", U(uv_hrtime() / 1000));
+    if (!draining) notify(told);
     tenants_reload();
+    if (!draining) notify("READY=1");
 }
 
 static void on_change(uv_fs_event_t *event, const char *file, int events, int status) {
@@ -128,18 +119,32 @@ static void on_change(uv_fs_event_t *event, const char *file, int events, int st
     if (status == 0 && file) tenant_changed(file);
 }
 
+/* What an option's word is: a number, or 1 if it is good, or UINT64_MAX. */
+static uint64_t value_of(int option, const char *word) {
+    switch (option) {
+    case 'j':
+    case 'r': return 1;
+    case 'a': return add_address(word) ? 1 : UINT64_MAX;
+    case 'x': return add_proxy(word) ? 1 : UINT64_MAX;
+    case 'm': return number_in(8, word, 0777);
+    case '?': return UINT64_MAX;
+    }
+    return number_of(word, 1000000);
+}
+
 /* Parses the options. Returns the port, or 0. */
 static int options(int argc, char **argv) {
     int port = 8080;
-    for (int o; (o = getopt(argc, argv, "a:p:w:t:c:x:r:g:")) != -1;) {
-        uint64_t n = o == 'a' || o == 'r' ? 1 : o == 'x' ? (uint64_t)inet_aton(optarg, &proxy) : optarg ? number_of(optarg, 1000000) : 0;
-        if (o == '?' || n == UINT64_MAX || n == 0) return 0;
-        if (o == 'a') address = optarg;
+    for (int o; (o = getopt(argc, argv, "a:p:w:t:c:x:r:g:m:j")) != -1;) {
+        uint64_t n = value_of(o, optarg);
+        if (n == UINT64_MAX || n == 0) return 0;
         if (o == 'p') port = (int)n;
         if (o == 'w') workers = n < MOST_WORKERS ? (uint32_t)n : MOST_WORKERS;
         if (o == 'g') grace = n;
         if (o == 't') patience = n * 1000;
         if (o == 'c') most_clients = (uint32_t)n;
+        if (o == 'm') socket_mode = (mode_t)n;
+        if (o == 'j') log_json = true;
         if (o == 'r') setenv("WASMLOOP_RECORD", optarg, 1), setenv("WASMLOOP_RECORD_KEEP", "failed", 0);
     }
     folder = argv[optind];
@@ -193,6 +198,8 @@ static void provide(void) {
     mallopt(M_TRIM_THRESHOLD, 256 << 20);
     signal(SIGPIPE, SIG_IGN);
     signal(SIGXFSZ, SIG_IGN); /* a log as long as a file may be is one on a full disk */
+    started = time(NULL);
+    grammar_begin();
     log_begin();
 }
 
@@ -221,27 +228,29 @@ static int watch_folder(void) {
 }
 
 /* Says what is wanting. Returns the status. */
-static int wants(int told, const char *what, const char *more) {
-    fprintf(stderr, "edge: %s%s: %s\n", what, more, uv_strerror(told));
+static int wants(int told, const char *what) {
+    fprintf(stderr, "edge: %s: %s\n", what, uv_strerror(told));
     return 1;
 }
 
 int main(int argc, char **argv) {
     static uv_loop_t own;
     int port = options(argc, argv), told;
-    char at[32];
     if (port == 0) {
-        fprintf(stderr, "usage: edge [-a ADDRESS] [-p PORT] [-w WORKERS] [-t SECONDS] [-c CLIENTS] [-x PROXY] [-r RECORDS] [-g GRACE] FOLDER\n");
+        fprintf(stderr, "usage: edge [-a ADDRESS].. [-p PORT] [-m MODE] [-w WORKERS] [-t SECONDS] [-c CLIENTS] [-x PROXY].. [-r RECORDS] [-g SECONDS] [-j]"
+                        " FOLDER\n");
         return 2;
     }
     if (!has_files()) return 1;
     provide();
     uv = &own;
-    snprintf(at, sizeof at, ", port %d", port);
-    if ((told = uv_loop_init(uv)) != 0) return wants(told, "an event loop", "");
-    if ((told = make_threads()) != 0) return wants(told, "the threads of its pool (-w)", "");
-    if ((told = watch_folder()) != 0) return wants(told, folder, "");
-    if ((told = serve(address, port)) != 0) return wants(told, address, at);
+    if ((told = uv_loop_init(uv)) != 0) return wants(told, "an event loop");
+    if ((told = make_threads()) != 0) return wants(told, "the threads of its pool (-w)");
+    if ((told = watch_folder()) != 0) return wants(told, folder);
+    if (!serve(port)) {
+        serve_no_more();
+        return 1;
+    }
     watch_signals();
     uv_timer_init(uv, &drain);
     uv_unref((uv_handle_t *)&drain);

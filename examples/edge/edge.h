@@ -1,6 +1,6 @@
 /* What the parts of the server share. Read this first, then edge.c (start, shutdown, and what a path requests), work.c (work, and whose turn
- * it is) and tenants.c (tenants, and their files). The rest is apart, each behind a few calls: http.c has connections, loops.c long-lived
- * loops, people.c metrics, the access log and pages, lines.c source lines.
+ * it is) and tenants.c (tenants, and their files). The rest is apart, each behind a few calls: http.c has connections, listen.c sockets, peer.c
+ * who a client is, loops.c long-lived loops, people.c metrics and pages, log.c the access log, lines.c source lines.
  *
  * Only the main thread parses, decides and answers. A thread of libuv's pool has one task at a time, and touches that task, the name of its
  * tenant, and, if the task is a loop's turn, the loop. */
@@ -11,6 +11,7 @@
 #include <stdbool.h>
 #include <stdio.h>
 #include <sys/queue.h>
+#include <time.h>
 #include <uv.h>
 #include "wasmloop.h"
 #include "../../capi/record_name.h"
@@ -110,8 +111,15 @@ void make_loop(tenant *t), free_loop(tenant *t);
 uint32_t loop_did(const tenant *t); /* what its loop did last; 0 without a loop */
 
 /* people.c */
-void count(tenant *t, outcome what, uint64_t came), log_answer(client *c, int status, size_t length), page(client *c, const char *path);
-void log_begin(void), log_flush(void);
+extern time_t started; /* when the server began, in seconds since 1970 */
+const char *outcome_name(outcome what);
+void count(client *c, outcome what), page(client *c, const char *path);
 void log_step(tenant *t, const wasmloop_did *did, const int64_t *emits, uint32_t n), make_steps(tenant *t), free_steps(tenant *t);
+
+/* log.c */
+extern bool log_json;        /* lines are objects of JSON */
+extern size_t lines_lost;    /* how many lines standard output did not take */
+extern uint64_t answers[6];  /* answers by the first digit of their status */
+void log_begin(void), log_flush(void), log_answer(const client *c, int status, size_t length), log_left(const client *c);
 
 #endif

@@ -3,7 +3,6 @@
 #include <stdlib.h>
 #include <string.h>
 #include <sys/socket.h>
-#include <unistd.h>
 #include "http.h"
 
 enum { IDLE_MS = 60000, LINGER_MS = 2000 };
@@ -11,12 +10,10 @@ enum { IDLE_MS = 60000, LINGER_MS = 2000 };
 uint32_t clients, most_clients = 16384, most_open = UINT32_MAX;
 uint64_t patience = 10000;
 size_t held;
-struct in_addr proxy = { INADDR_NONE };
 
 static holder holders[4096], of_proxy; /* by a hash of the address: two may share one */
 static uint64_t requests;
 static bool starved; /* a connection waits for memory */
-static uv_tcp_t server;
 
 static const char TOO_LONG[] = "the body is too long: 65536 bytes at most";
 static const uv_buf_t go_ahead = { .base = "HTTP/1.1 100 Continue\r\n\r\n", .len = 25 };
@@ -25,7 +22,7 @@ static void go_on(client *c), read_on(client *c);
 
 static uint64_t in_ms(uint64_t ms) { return uv_hrtime() + ms * MS; }
 
-static bool closes(client *c) { return uv_is_closing((uv_handle_t *)&c->tcp); }
+static bool closes(client *c) { return uv_is_closing(&c->socket.handle); }
 
 /* ---- bytes ---- */
 
@@ -107,7 +104,7 @@ static void on_closed(uv_handle_t *handle) {
 
 /* Closes a connection: if its work runs, once the slice is over. */
 void leave(client *c) {
-    if (give_up(c) && !closes(c)) uv_close((uv_handle_t *)&c->tcp, on_closed);
+    if (give_up(c) && !closes(c)) uv_close(&c->socket.handle, on_closed);
 }
 
 /* The answer is written. A connection that is to be closed lingers, so that bytes still arriving don't reset it before the answer is read. */
@@ -127,7 +124,7 @@ static void on_written(uv_write_t *write, int status) {
     c->keep = false;
     c->task.until = in_ms(LINGER_MS);
     read_on(c);
-    if (status != 0 || uv_fileno((uv_handle_t *)&c->tcp, &fd) != 0 || shutdown(fd, SHUT_WR) != 0) leave(c);
+    if (status != 0 || uv_fileno(&c->socket.handle, &fd) != 0 || shutdown(fd, SHUT_WR) != 0) leave(c);
 }
 
 /* Answers with `length` bytes, which must stay until they are written. HEAD gets only the headers: a body would be taken for the next answer. */
@@ -147,7 +144,7 @@ void answer(client *c, int status, const char *type, const void *body, size_t le
     c->busy = true;
     c->task.until = in_ms(patience);
     bool bare = length == 0 || c->parser.method == HTTP_HEAD;
-    if (uv_write(&c->write, (uv_stream_t *)&c->tcp, parts, bare ? 1 : 2, on_written) != 0) leave(c);
+    if (uv_write(&c->write, &c->socket.stream, parts, bare ? 1 : 2, on_written) != 0) leave(c);
 }
 
 /* Answers with a text. */
@@ -164,9 +161,10 @@ void say(client *c, int status, const char *format, ...) {
 static int on_begin(http_parser *p) {
     client *c = p->data;
     c->task = (task){ 0 };
+    c->what = GONE;
     c->head_length = c->body.length = 0;
-    c->keep = false;
-    *c->path = 0;
+    c->keep = c->headed = c->valued = false;
+    *c->path = *c->header = *c->forwarded = 0;
     c->number = ++requests;
     c->came = uv_hrtime();
     c->task.until = in_ms(patience);
@@ -189,21 +187,43 @@ static int on_url(http_parser *p, const char *at, size_t n) {
     return 0;
 }
 
-/* A header's name, its value, or a part of one. */
-static int on_header(http_parser *p, const char *at, size_t n) {
+/* Appends to a text what fits. */
+static void append(char *to, size_t room, const char *at, size_t n) {
+    size_t had = strlen(to), fits = n < room - had ? n : room - had - 1;
+    memcpy(to + had, at, fits);
+    to[had + fits] = 0;
+}
+
+static int on_header(client *c, size_t n) { return (c->head_length += n) > MOST_HEAD ? refused(c, 431, "the headers are too long") : 0; }
+
+/* A header's name, or a part of one. */
+static int on_field(http_parser *p, const char *at, size_t n) {
     client *c = p->data;
-    (void)at;
-    return (c->head_length += n) > MOST_HEAD ? refused(c, 431, "the headers are too long") : 0;
+    if (c->valued) *c->header = 0;
+    c->valued = false;
+    append(c->header, sizeof c->header, at, n);
+    return on_header(c, n);
+}
+
+/* Its value, or a part of one. Only a proxy tells whom it forwards, and no trailer does. */
+static int on_value(http_parser *p, const char *at, size_t n) {
+    client *c = p->data;
+    bool tells = c->from == &of_proxy && !c->headed && strcasecmp(c->header, "x-forwarded-for") == 0;
+    if (tells && !c->valued && *c->forwarded) append(c->forwarded, sizeof c->forwarded, ", ", 2);
+    if (tells) append(c->forwarded, sizeof c->forwarded, at, n);
+    c->valued = true;
+    return on_header(c, n);
 }
 
 /* The headers are complete. A body that isn't needed is not read. */
 static int on_head(http_parser *p) {
     client *c = p->data;
     const grammar *g = &c->grammar;
+    c->headed = true;
     if (g->length > MOST_BYTES) return refused(c, 413, TOO_LONG);
     if (g->length == 0 && !g->chunked) return 0;
     if (!wants_all(c)) return -1;
-    if (g->expects && g->minor > 0) uv_write(&c->go_ahead, (uv_stream_t *)&c->tcp, &go_ahead, 1, NULL);
+    if (g->expects && g->minor > 0) uv_write(&c->go_ahead, &c->socket.stream, &go_ahead, 1, NULL);
     return 0;
 }
 
@@ -229,8 +249,8 @@ static int on_end(http_parser *p) {
 
 static const http_parser_settings settings = { .on_message_begin = on_begin,
     .on_url = on_url,
-    .on_header_field = on_header,
-    .on_header_value = on_header,
+    .on_header_field = on_field,
+    .on_header_value = on_value,
     .on_headers_complete = on_head,
     .on_chunk_header = on_chunk,
     .on_body = on_body,
@@ -254,7 +274,7 @@ static size_t feed(client *c, const char *at, size_t n) {
 static void keep_rest(client *c, const char *at, size_t n) {
     if (closes(c) || !c->keep) return;
     if (hold(c, &c->rest, at, n))
-        uv_read_stop((uv_stream_t *)&c->tcp);
+        uv_read_stop(&c->socket.stream);
     else
         leave(c);
 }
@@ -279,7 +299,7 @@ static void on_read(uv_stream_t *stream, ssize_t n, const uv_buf_t *buf) {
 static void read_on(client *c) {
     drop_bytes(c, &c->rest);
     c->rest.length = c->parsed = 0;
-    uv_read_start((uv_stream_t *)&c->tcp, on_room, on_read);
+    uv_read_start(&c->socket.stream, on_room, on_read);
 }
 
 static void go_on(client *c) {
@@ -290,30 +310,37 @@ static void go_on(client *c) {
 
 /* The counters of a client's address. */
 static holder *holder_of(const client *c) {
-    struct sockaddr_in at = { 0 };
-    int length = sizeof at;
-    uv_tcp_getpeername(&c->tcp, (struct sockaddr *)&at, &length);
-    return at.sin_addr.s_addr == proxy.s_addr ? &of_proxy : &holders[at.sin_addr.s_addr * 2654435761u >> 20];
+    return is_proxy(&c->peer) ? &of_proxy : &holders[c->peer.counts_as * 11400714819323198485u >> 52];
 }
 
-static void on_connection(uv_stream_t *stream, int status) {
-    client *c = status < 0 ? NULL : calloc(1, sizeof *c);
-    starved = status == 0 && !c;
-    if (!c) return;
-    clients++;
-    uv_tcp_init(uv, &c->tcp);
+/* Creates a client for a connection that a listener has: NULL without memory. */
+static client *new_client(bool is_tcp) {
+    client *c = calloc(1, sizeof *c);
+    if (!c) return NULL;
+    if (is_tcp) uv_tcp_init(uv, &c->socket.tcp);
+    else uv_pipe_init(uv, &c->socket.pipe, 0);
     http_parser_init(&c->parser, HTTP_REQUEST);
-    c->tcp.data = c->parser.data = c;
+    c->socket.handle.data = c->parser.data = c;
     c->task.until = in_ms(patience);
-    bool accepted = uv_accept(stream, (uv_stream_t *)&c->tcp) == 0;
+    clients++;
+    return c;
+}
+
+void on_connection(uv_stream_t *stream, int status) {
+    const bool is_tcp = stream->type == UV_TCP;
+    client *c = status < 0 ? NULL : new_client(is_tcp);
+    starved |= status == 0 && !c;
+    if (!c) return;
+    bool accepted = uv_accept(stream, &c->socket.stream) == 0;
+    if (accepted) c->peer = peer_of(&c->socket);
     c->from = accepted ? holder_of(c) : &of_proxy;
     c->from->clients++;
     if (!accepted || clients > most_open) {
         leave(c);
         return;
     }
-    uv_tcp_nodelay(&c->tcp, 1);
-    uv_read_start((uv_stream_t *)&c->tcp, on_room, on_read);
+    if (is_tcp) uv_tcp_nodelay(&c->socket.tcp, 1);
+    uv_read_start(&c->socket.stream, on_room, on_read);
     if (may_have(c->from, c->from->clients, clients, most_clients)) return;
     on_begin(&c->parser);
     say(c, 503, "too many clients\n");
@@ -322,8 +349,8 @@ static void on_connection(uv_stream_t *stream, int status) {
 /* Closes or answers a client that has timed out, or if the server shuts down. A client's time-out counts up to the previous sweep: all that it had
  * sent by then has been read. */
 static void on_each(uv_handle_t *handle, void *swept) {
-    client *c = handle->data;
-    if (handle->type != UV_TCP || handle == (uv_handle_t *)&server || uv_is_closing(handle)) return;
+    client *c = handle->data; /* (a listener has none) */
+    if ((handle->type != UV_TCP && handle->type != UV_NAMED_PIPE) || !c || uv_is_closing(handle)) return;
     bool stands = c->task.state == IDLE, late = c->task.until <= (stands ? *(uint64_t *)swept : uv_hrtime());
     if (!late && (!ending || (stands && c->busy))) return;
     if (!stands)
@@ -336,21 +363,9 @@ static void on_each(uv_handle_t *handle, void *swept) {
 
 void clients_sweep(void) {
     static uint64_t swept;
-    if (starved && !ending) on_connection((uv_stream_t *)&server, 0);
+    bool wanting = starved;
+    starved = false;
+    if (wanting && !ending) accept_again();
     uv_walk(uv, on_each, &swept);
     swept = uv_hrtime();
 }
-
-int serve(const char *address, int port) {
-    struct sockaddr_in at;
-    int told = uv_ip4_addr(address, port, &at);
-    const char *given = getenv("LISTEN_FDS"), *to = getenv("LISTEN_PID");
-    grammar_begin();
-    uv_tcp_init(uv, &server);
-    /* (systemd's socket outlives a restart, so no connection is refused meanwhile) */
-    if (given && to && atoi(given) == 1 && atoi(to) == getpid()) told = uv_tcp_open(&server, 3);
-    else if (told == 0) told = uv_tcp_bind(&server, (struct sockaddr *)&at, 0);
-    return told == 0 ? uv_listen((uv_stream_t *)&server, 4096, on_connection) : told;
-}
-
-void serve_no_more(void) { uv_close((uv_handle_t *)&server, NULL); }

@@ -81,7 +81,7 @@ void ask(client *c, tenant *t, uint32_t op) {
 /* Sends to an async of a loop, which may not exist yet. */
 void send_to(client *c, tenant *t, uint32_t async) {
     if (answer_without(c)) return;
-    count(t, DONE, c->came);
+    count(c, DONE);
     t->sends |= 1u << async;
     turn_soon(t);
     say(c, 202, "sent\n");
@@ -108,7 +108,7 @@ static void answer_ask(tenant *t, int64_t emitted) {
     for (task *k = TAILQ_FIRST(&t->asks); k; k = TAILQ_NEXT(k, next)) {
         client *c = (client *)k;
         if (!c->request || emitted >> 32 != c->request) continue;
-        count(t, DONE, c->came);
+        count(c, DONE);
         say(c, 200, "%u\n", (uint32_t)emitted);
         return;
     }

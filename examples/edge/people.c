@@ -1,16 +1,14 @@
-/* Metrics, the access log on standard output, and pages:
+/* Metrics and pages:
  *
  *     GET /-/metrics       Prometheus' text format
  *     GET /-/health        200, or 503 while it shuts down
  *     GET /-/tenants       by tabs: name, state, 1 if it has a loop, why its file was rejected, its last failure
  *     GET /-/log/NAME      a loop's last steps
  *     GET /-/              FOLDER/dashboard.html */
-#include <fcntl.h>
 #include <malloc.h>
 #include <stdlib.h>
 #include <string.h>
 #include <sys/resource.h>
-#include <time.h>
 #include <unistd.h>
 #include "http.h"
 
@@ -30,65 +28,26 @@ typedef struct steps {
     int64_t kept[KEPT];
 } steps;
 
-static char lines[1 << 16]; /* of the access log, not yet written */
-static size_t lines_length, lines_lost;
+time_t started;
 
-static uint64_t answered[6]; /* responses by their class */
-static time_t began;         /* when the server began */
+static const char *const outcomes[] = { "gone", "done", "trap", "depth", "spent", "memory", "late", "refused" };
 
-/* ---- the access log and counters ---- */
+const char *outcome_name(outcome what) { return outcomes[what]; }
+
+/* ---- counters ---- */
 
 /* Counts a request that is answered, or whose client has disconnected. */
-void count(tenant *t, outcome what, uint64_t came) {
-    counted *n = &t->counted;
-    uint64_t us = (uv_hrtime() - came) / 1000;
+void count(client *c, outcome what) {
+    counted *n = &c->task.of->counted;
+    uint64_t us = (uv_hrtime() - c->came) / 1000;
     int power = 0;
+    c->what = what;
     n->of[what]++;
+    if (what == GONE) log_left(c);
     if (what == GONE || what == NO_MEMORY || what == REFUSED) return;
     while (us >> power) power++;
     n->lived += us, n->times[power < TIMES ? power : TIMES - 1]++;
     if (us > n->worst) n->worst = us;
-}
-
-/* Makes standard output non-blocking: reopened, so that other processes that have it see no change; if that fails, as it is. */
-void log_begin(void) {
-    began = time(NULL);
-    int own = open("/proc/self/fd/1", O_WRONLY | O_APPEND | O_NONBLOCK | O_CLOEXEC);
-    if (own >= 0)
-        dup2(own, STDOUT_FILENO), close(own);
-    else
-        fcntl(STDOUT_FILENO, F_SETFL, fcntl(STDOUT_FILENO, F_GETFL) | O_NONBLOCK);
-}
-
-/* Writes the lines that standard output accepts now; the rest stays. */
-void log_flush(void) {
-    ssize_t n = write(STDOUT_FILENO, lines, lines_length);
-    if (n <= 0) return;
-    lines_length -= (size_t)n;
-    memmove(lines, lines + n, lines_length);
-}
-
-void log_answer(client *c, int status, size_t length) {
-    answered[status / 100 < 6 ? status / 100 : 0]++;
-    static time_t at;
-    static char moment[32];
-    char path[sizeof c->path], line[sizeof path + 256];
-    time_t now = time(NULL);
-    struct tm parts;
-    if (now != at) strftime(moment, sizeof moment, "%Y-%m-%dT%H:%M:%SZ", gmtime_r(&now, &parts)), at = now;
-    size_t n = strlen(strcpy(path, c->path));
-    for (size_t i = 0; i < n; i++)
-        if (path[i] <= ' ' || path[i] > '~' || path[i] == '"') path[i] = '?';
-    size_t m = (size_t)snprintf(line, sizeof line, "at=%s request=%llu method=%s path=\"%s\" status=%d in=%zu out=%zu us=%llu fuel=%llu\n",
-        moment, U(c->number), http_method_str(c->parser.method), path, status, c->body.length, length, U((uv_hrtime() - c->came) / 1000),
-        U(c->task.about.used));
-    if (m > sizeof lines - lines_length) log_flush();
-    if (m > sizeof lines - lines_length) {
-        lines_lost++;
-        return;
-    }
-    memcpy(lines + lines_length, line, m);
-    lines_length += m;
 }
 
 void make_steps(tenant *t) {
@@ -170,8 +129,8 @@ static void write_process(FILE *to) {
     write_type(to, "build_info", "gauge", "1, with the library's version.");
     fprintf(to, "edge_build_info{version=\"%s\"} 1\n", wasmloop_version());
     write_type(to, "responses_total", "counter", "Responses by the class of their status.");
-    for (int k = 1; k < 6; k++) fprintf(to, "edge_responses_total{class=\"%dxx\"} %llu\n", k, U(answered[k]));
-    write_process_number(to, "start_time_seconds", "gauge", "When the process began, in seconds since 1970.", (double)began);
+    for (int k = 1; k < 6; k++) fprintf(to, "edge_responses_total{class=\"%dxx\"} %llu\n", k, U(answers[k]));
+    write_process_number(to, "start_time_seconds", "gauge", "When the process began, in seconds since 1970.", (double)started);
     write_process_number(to, "resident_memory_bytes", "gauge", "Resident memory.", (double)resident);
     write_process_number(to, "cpu_seconds_total", "counter", "Processor time, user and system.", seconds(used.ru_utime) + seconds(used.ru_stime));
 }
@@ -218,11 +177,10 @@ static void write_numbers(FILE *to) {
 }
 
 static void write_requests(FILE *to) {
-    static const char *const names[] = { "gone", "done", "trap", "depth", "spent", "memory", "late", "refused" };
     write_type(to, "requests_total", "counter", "Requests by what became of them.");
     for (tenant *t = LIST_FIRST(&tenants); t; t = LIST_NEXT(t, next))
         for (int k = 0; k < OUTCOMES; k++)
-            fprintf(to, "edge_requests_total{tenant=\"%s\",outcome=\"%s\"} %llu\n", t->name, names[k], U(t->counted.of[k]));
+            fprintf(to, "edge_requests_total{tenant=\"%s\",outcome=\"%s\"} %llu\n", t->name, outcomes[k], U(t->counted.of[k]));
     write_type(to, "latency_seconds", "summary", "From a request's first byte to its answer.");
     for (tenant *t = LIST_FIRST(&tenants); t; t = LIST_NEXT(t, next)) {
         uint64_t answered = 0;

@@ -21,6 +21,20 @@ part() {
     say "$(basename "$1"): $(shift 2; echo "$*") passed in $(($(date +%s) - began)) s"
 }
 
+# With addresses of several networks, in a namespace.
+networks() {
+    own='unshare --map-root-user --net'
+    if ! has ip || ! $own true 2> /dev/null; then left_out 'networks of IPv6: there is no ip, or no namespace'; return; fi
+    $own python3 "$here/test/test.py" "$@" networks || { say 'FAILED: networks'; failed=1; }
+}
+
+# What systemd says of the units, with a program that is there.
+units() {
+    if ! has systemd-analyze; then left_out 'the units: there is no systemd-analyze'; return; fi
+    mkdir "$out/units" && cp "$here/edge.socket" "$out/units" && sed "s|/usr/bin/edge|$1|" "$here/edge.service" > "$out/units/edge.service"
+    said=$(systemd-analyze verify --man=no "$out/units/edge.socket" "$out/units/edge.service" 2>&1) && [ -z "$said" ] || { say "FAILED: the units: $said"; failed=1; }
+}
+
 soak() {
     if python3 "$here/bench/soak.py" --seconds "$2" "$1" "$out/load" "$out/guests" > "$out/soak"; then say "soak: $2 s, $(head -n 1 "$out/soak")"
     else say "FAILED: soak: $(cat "$out/soak")"; failed=1
@@ -84,7 +98,9 @@ for how; do
     plain)
         CFLAGS=-Werror "$here/build.sh" "$out/plain" "$library" || exit 1
         "$here/bench/plain.sh" "$out/over_c" || { say 'FAILED: bench/plain.sh'; failed=1; }
-        part "$out/plain" "$out/guests" functions bounds starts end operators clients $others
+        part "$out/plain" "$out/guests" functions bounds starts end operators listeners logs clients $others
+        networks "$out/plain" "$out/guests"
+        units "$out/plain"
         if has chromium; then part "$out/plain" "$out/guests" page; else left_out 'the page: there is no chromium'; fi
         soak "$out/plain" 10
         leak 10
@@ -95,10 +111,10 @@ for how; do
         fi ;;
     addresses)
         CC=clang CFLAGS='-g -O1 -fsanitize=address,undefined -fno-sanitize-recover=undefined' "$here/build.sh" "$out/addresses" "$library" || exit 1
-        ASAN_OPTIONS=quarantine_size_mb=8 part "$out/addresses" "$out/guests" functions bounds end operators clients $others ;;
+        ASAN_OPTIONS=quarantine_size_mb=8 part "$out/addresses" "$out/guests" functions bounds end operators listeners logs clients $others ;;
     threads)
         CC=clang CFLAGS='-g -O1 -fsanitize=thread' "$here/build.sh" "$out/threads" "$library" || exit 1
-        part "$out/threads" "$out/guests" functions bounds end operators clients $others ;;
+        part "$out/threads" "$out/guests" functions bounds end operators listeners logs clients $others ;;
     long)
         "$here/build.sh" "$out/plain" "$library" || exit 1
         CC=clang CFLAGS='-g -O1 -fsanitize=address,undefined -fno-sanitize-recover=undefined' "$here/build.sh" "$out/addresses" "$library" || exit 1
@@ -112,6 +128,10 @@ for how; do
         if [ "$(id -u)" != 0 ] || ! has mmdebstrap; then left_out 'the image: it takes root and mmdebstrap'
         elif said=$(python3 "$here/test/image.py" "$out/guests" 2> "$out/image"); then say "image: $said"
         else say "FAILED: test/image.py: $(tail -n 3 "$out/image")"; failed=1
+        fi
+        if [ "$(id -u)" != 0 ] || ! has mmdebstrap || ! grep -q ' cgroup2 ' /proc/mounts; then left_out 'the units in a systemd: it takes root, mmdebstrap and cgroup2'
+        elif said=$(python3 "$here/test/unit.py" "$out/plain" "$out/guests" 2> "$out/unit"); then say "$said"
+        else say "FAILED: test/unit.py: $(tail -n 3 "$out/unit")"; failed=1
         fi
         if [ "$(id -u)" != 0 ]; then left_out 'bench/proxies.py: it makes namespaces as root'
         else python3 "$here/bench/proxies.py" "$out/plain" "$out/load" "$out/guests" || { say 'FAILED: bench/proxies.py'; failed=1; }

@@ -199,7 +199,7 @@ void keep_failure(task *k) {
 
 /* Answers a request that has no reply with the reason, and counts it. */
 void fail(client *c, outcome what, int status, const char *why) {
-    count(c->task.of, what, c->came);
+    count(c, what);
     say(c, status, "%s: %s\n", c->task.of->name, why);
 }
 
@@ -218,7 +218,7 @@ bool give_up(client *c) {
     task *k = &c->task;
     k->gone = true;
     if (k->state == RUNS) return false;
-    if (k->state != IDLE) count(k->of, GONE, c->came);
+    if (k->state != IDLE) count(c, GONE);
     unwait(k);
     return true;
 }
@@ -269,10 +269,10 @@ static void worked(task *k) {
     t->counted.out += length;
     note_end(t, what, length);
     if (k->gone) {
-        count(t, GONE, c->came);
+        count(c, GONE);
         leave(c);
     } else if (what == DONE) {
-        count(t, DONE, c->came);
+        count(c, DONE);
         answer(c, 200, t->type ? t->type : "application/octet-stream", reply, length);
     } else {
         fail(c, what, status_of[what], k->said);

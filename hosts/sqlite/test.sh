@@ -55,17 +55,19 @@ def opened(fuel):
     db.load_extension("./out/wasmloop")
     db.execute("SELECT load_plugin('r', ?, ?)", (bytes, fuel))
     return db
-def interrupted(db, what):          # how many milliseconds after the interrupt the statement has ended, or what it said instead
-    began = []
-    def stop(): began.append(time.perf_counter()); db.interrupt()
-    timer = threading.Timer(0.05, stop)
+def interrupted(db, what):          # milliseconds of processor time from the interrupt to the statement's end, or what it said instead
+    began, over = [], threading.Event()
+    def stop():                     # again, if a busy machine had not begun the statement: SQLite forgets an interrupt of none
+        while not over.wait(0.05): began.append(time.process_time()); db.interrupt()
+    timer = threading.Thread(target=stop)
     timer.start()
     try: said = db.execute(what).fetchall()
     except sqlite3.OperationalError as error: said = str(error)
-    took = (time.perf_counter() - began[0]) * 1000 if began else -1
+    took = (time.process_time() - began[0]) * 1000 if began else -1
+    over.set()
     timer.join()
     return took if said == "interrupted" and took >= 0 else said
-def soon(db, what):                 # the least of five: the machine is busy
+def soon(db, what):
     took = [interrupted(db, what) for _ in range(5)]
     return "ok" if all(isinstance(t, float) and t < 500 for t in took) and min(took) < 10 else took
 rows = "WITH RECURSIVE c(x) AS (VALUES(1) UNION ALL SELECT x + 1 FROM c WHERE x < 100000000)"

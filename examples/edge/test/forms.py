@@ -9,6 +9,7 @@ import re
 import socket
 import sys
 import time
+from collections.abc import Iterator
 
 PORT = int(sys.argv[1])
 FILE = pathlib.Path(sys.argv[2] if sys.argv[2:] else pathlib.Path(__file__).with_name("forms.txt"))
@@ -16,7 +17,7 @@ chance = random.Random(int((*sys.argv[3:4], "46")[0]))
 BEHIND = b"POST /hello HTTP/1.1\r\nHost: x\r\nConnection: close\r\nContent-Length: 6\r\n\r\nbehind"
 
 
-def forms():
+def forms() -> Iterator[tuple[int, str, bytes]]:
     """The status, the name and the bytes of each block."""
     for block in re.split(r"\n\n+", FILE.read_text("ascii")):
         lines = [it for it in block.strip("\n").split("\n") if not it.startswith("# ")]
@@ -24,14 +25,14 @@ def forms():
             yield int(lines[0][:3]), lines[0][4:], "".join(lines[1:]).encode().decode("unicode_escape").encode("latin-1")
 
 
-def pieces(data, how):
+def pieces(data: bytes, how: str) -> Iterator[bytes]:
     """The data whole, byte by byte, or in two pieces."""
-    cuts = {"whole": [], "bytes": range(1, len(data))}.get(how, [chance.randrange(1, len(data))])
+    cuts = {"whole": list[int](), "bytes": list(range(1, len(data)))}.get(how, [chance.randrange(1, len(data))])
     for begin, end in zip([0, *cuts], [*cuts, len(data)]):
         yield data[begin:end]
 
 
-def answers(data, how):
+def answers(data: bytes, how: str) -> bytes:
     """All that the server sends until it closes the connection."""
     got = b""
     with socket.create_connection(("127.0.0.1", PORT), 60) as link:
@@ -48,7 +49,7 @@ def answers(data, how):
     return got
 
 
-def is_right(status, data, got):
+def is_right(status: int, data: bytes, got: bytes) -> bool:
     """Whether these are the answers: one that ends the connection, or two."""
     told = [int(it) for it in re.findall(rb"HTTP/1\.1 (\d+) ", got)]
     if status == 405:
@@ -60,7 +61,7 @@ def is_right(status, data, got):
     return told == [200, 200] and got.endswith(b"\r\n\r\nhello, behind") and (b"hello, me" in got or not data.endswith(b"me"))
 
 
-def main():
+def main() -> int:
     bad, all_forms = 0, list(forms())
     for status, what, data in all_forms:
         for how in "whole", "bytes", "cut", "cut", "cut":

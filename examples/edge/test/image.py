@@ -22,24 +22,25 @@ import time
 
 HERE = pathlib.Path(__file__).resolve().parent
 TOP = HERE.parent.parent.parent
+NOTHING: dict[str, str] = {}
 
 
-def run(*words):
+def run(*words: str | pathlib.Path) -> None:
     subprocess.run([str(word) for word in words], check=True)
 
 
-def debian(root):
-    """debian:12-slim, as far as a build needs it."""
+def debian(root: pathlib.Path, *packages: str) -> None:
+    """debian:12-slim, as far as a build needs it, and packages more."""
     if (root / "whole").exists():
         return
     shutil.rmtree(root, ignore_errors=True)
     mirror = subprocess.run([TOP / "tools/debian_mirror.sh"], capture_output=True, text=True, check=True).stdout.strip()
-    run("mmdebstrap", "--quiet", "--variant=minbase", "bookworm", root, mirror)
+    run("mmdebstrap", "--quiet", "--variant=minbase", *(f"--include={it}" for it in packages), "bookworm", root, mirror)
     shutil.copy("/etc/resolv.conf", root / "etc/resolv.conf")
     (root / "whole").touch()
 
 
-def copied(root, context, words):
+def copied(root: pathlib.Path, context: pathlib.Path, words: list[str]) -> None:
     """COPY: a folder's contents, or a file."""
     *sources, target = words
     for source in sources:
@@ -53,9 +54,9 @@ def copied(root, context, words):
             shutil.copy(at, to)
 
 
-def build(kept, built, image):
+def build(kept: pathlib.Path, built: pathlib.Path, image: pathlib.Path) -> dict[str, str]:
     """Follows the Containerfile. Returns what it says of the image: USER and ENTRYPOINT."""
-    stages, root, said = {}, image, {}
+    stages, root, said = dict[str, pathlib.Path](), image, dict[str, str]()
     for line in (HERE.parent / "Containerfile").read_text().splitlines():
         word, _, rest = line.partition(" ")
         if word == "FROM":
@@ -77,14 +78,14 @@ def build(kept, built, image):
     return said
 
 
-def ask(path, body=None):
+def ask(path: str, body: bytes | None = None) -> tuple[int, bytes]:
     link = http.client.HTTPConnection("127.0.0.1", 8080, timeout=60)
     link.request("POST" if body else "GET", path, body)
     answer = link.getresponse()
     return answer.status, answer.read()
 
 
-def inside(root, guests, user, entry):
+def inside(root: str, guests: str, user: str, entry: str) -> None:
     """In namespaces of its own: it starts the image, asks it, and ends it."""
     control = socket.socket(socket.AF_INET, socket.SOCK_DGRAM)
     fcntl.ioctl(control, 0x8914, struct.pack("16sh", b"lo", 1))         # SIOCSIFFLAGS: lo is up
@@ -92,8 +93,8 @@ def inside(root, guests, user, entry):
     run("mount", "--bind", guests, f"{root}/tenants")
     run("mount", "-o", "remount,bind,ro", root)
     words = ["setpriv", "--no-new-privs", "--bounding-set=-all,+sys_chroot,+setuid,+setgid"]
-    words += [shutil.which("chroot"), f"--userspec={user}", "--groups=", root, *json.loads(entry)]
-    server = subprocess.Popen(words, stdout=subprocess.PIPE, text=True, env={})
+    words += [shutil.which("chroot") or "chroot", f"--userspec={user}", "--groups=", root, *json.loads(entry)]
+    server = subprocess.Popen(words, stdout=subprocess.PIPE, text=True, env=NOTHING)
     while server.poll() is None:
         try:
             assert ask("/-/health") == (200, b"ok\n")
@@ -109,9 +110,10 @@ def inside(root, guests, user, entry):
     assert server.returncode == 0 and "path=\"/hello\" status=200" in log, (server.returncode, log)
 
 
-def main():
+def main() -> None:
     if sys.argv[1] == "inside":
-        return inside(*sys.argv[2:])
+        inside(*sys.argv[2:])
+        return
     with tempfile.TemporaryDirectory() as room:
         kept, image = pathlib.Path(sys.argv[2] if len(sys.argv) > 2 else f"{room}/debian"), pathlib.Path(room) / "image"
         image.mkdir()
@@ -121,7 +123,7 @@ def main():
         own = ("unshare", "--net", "--mount", "--pid", "--fork", "--mount-proc")
         run(*own, sys.executable, __file__, "inside", image, sys.argv[1], said["USER"], said["ENTRYPOINT"])
         print(f"the image has {', '.join(files)}, {(image / 'edge').stat().st_size} bytes, and answers")
-    return None
 
 
-main()
+if __name__ == "__main__":
+    main()

@@ -6,10 +6,10 @@ port=$(cd "$here" && python3 -c 'import ports; print(ports.free_port())')
 cp "$2"/*.wasm "$here/dashboard.html" "$room"
 for guest in "$room"/*.wasm; do echo 'deadline 60000' > "${guest%.wasm}.conf"; done # a busy machine is no failure
 echo 'type text/plain' >> "$room/hello.conf"
-"$1" -p "$port" -w 3 "$room" > "$room/access" & pid=$!
+"$1" -a 127.0.0.1 -a "unix:$room/edge.sock" -p "$port" -w 3 "$room" > "$room/access" & pid=$!
 trap 'kill $pid; wait $pid; rm -rf "$room"' EXIT
 curl -s --interface 127.0.0.2 --retry 50 --retry-connrefused --retry-delay 1 -o "$room/got" "http://127.0.0.1:$port/-/metrics"
-grep '^    curl ' "$here/README.md" | sed "s/8080/$port/" > "$room/lines"
+grep '^    curl ' "$here/README.md" | sed "s/8080/$port/; s|/run/edge.sock|$room/edge.sock|" > "$room/lines"
 while IFS= read -r line; do
     wanted=${line##*# } count=$((count + 1))
     (cd "$room" && sh -c "${line%%# *}") > "$room/got" 2>&1

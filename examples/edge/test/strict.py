@@ -5,6 +5,8 @@ usage: strict.py PORT [COUNT [SEED]]     PORT: of a server whose tenants are tho
 import random
 import socket
 import sys
+from collections.abc import Iterator
+from importlib.metadata import version
 
 import h11
 
@@ -14,9 +16,9 @@ PAGES = "/-/metrics", "/-/tenants", "/-/nothing", "/-/"
 TENANTS = "/hello", "/crc32", "/trap/0", "/spin", "/nobody", "/hello/x", "/limiter/ask", "/limiter/send/0"
 
 
-def request():
+def request() -> tuple[h11.Request, list[bytes]]:
     """A random request, and its body's parts."""
-    method, body = chance.choice(("POST", "POST", "POST", "GET", "HEAD", "PUT", "DELETE", "OPTIONS")), []
+    method, body = chance.choice(("POST", "POST", "POST", "GET", "HEAD", "PUT", "DELETE", "OPTIONS")), list[bytes]()
     path = chance.choice(PAGES if method in ("GET", "HEAD") and chance.random() < 0.7 else TENANTS)
     heads = [("Host", "x"), ("X-Long", "y" * chance.choice((0, 1, 500, 4000)))]
     if method in ("POST", "PUT"):
@@ -27,14 +29,14 @@ def request():
     return h11.Request(method=method, target=path, headers=heads), body
 
 
-def pieces(data):
+def pieces(data: bytes) -> Iterator[bytes]:
     while data:
         size = chance.choice((1, 3, 50, 2000, len(data)))
         yield data[:size]
         data = data[size:]
 
 
-def answer(link, peer):
+def answer(link: socket.socket, peer: h11.Connection) -> list[int]:
     """The statuses of a response: the final one, maybe after 100."""
     statuses = []
     while True:
@@ -49,14 +51,14 @@ def answer(link, peer):
             raise ValueError("bytes after the response")
 
 
-def dialogue():
+def dialogue() -> list[tuple[str, str, list[int]]]:
     """Requests on one connection, at most eight: the method, the path and the statuses of each."""
-    peer, told = h11.Connection(h11.CLIENT), []
+    peer, told = h11.Connection(h11.CLIENT), list[tuple[str, str, list[int]]]()
     with socket.create_connection(("127.0.0.1", PORT), 60) as link:
         link.setsockopt(socket.IPPROTO_TCP, socket.TCP_NODELAY, 1)
         while len(told) < 8 and peer.our_state is h11.IDLE:
             ask, body = request()
-            data = peer.send(ask) + b"".join(peer.send(h11.Data(data=part)) for part in body) + peer.send(h11.EndOfMessage())
+            data = b"".join(peer.send(it) or b"" for it in (ask, *(h11.Data(data=part) for part in body), h11.EndOfMessage()))
             try:
                 for part in pieces(data):
                     link.sendall(part)
@@ -68,8 +70,8 @@ def dialogue():
     return told
 
 
-def main():
-    seen, bad = {}, 0
+def main() -> int:
+    seen, bad = dict[int, int](), 0
     for _ in range(COUNT):
         try:
             for method, path, statuses in dialogue():
@@ -79,7 +81,7 @@ def main():
         except (h11.ProtocolError, ValueError, OSError, IndexError) as error:
             bad += 1
             print(f"strict: {type(error).__name__}: {error}", file=sys.stderr)
-    print(f"strict: {sum(seen.values())} answers by h11 {h11.__version__}, {bad} of {COUNT} connections wrong; statuses {dict(sorted(seen.items()))}")
+    print(f"strict: {sum(seen.values())} answers by h11 {version('h11')}, {bad} of {COUNT} connections wrong; statuses {dict(sorted(seen.items()))}")
     return 1 if bad or not seen else 0
 
 

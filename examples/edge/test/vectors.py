@@ -16,6 +16,8 @@ import re
 import socket
 import sys
 import unittest
+from collections.abc import Callable
+from typing import Any
 
 # Tests of what the judge limits, and of forms in bodies: no rule of HTTP.
 ITS_OWN = {
@@ -40,26 +42,28 @@ STRICTER = [
     ("uri: `host:port` and basic auth", b"", "RFC 9110, 4.2.4: a user in a URL is an error"),
 ]
 CHUNKED = b"POST /hello HTTP/1.1\r\nHost: x\r\nTransfer-Encoding: chunked\r\n\r\n"
-seen = []  # (the test, what it sent, whether it is accepted, or None)
+seen: list[tuple[str, bytes, bool | None]] = []  # (the test, what it sent, whether it is accepted, or None)
 
 
 # ---- Twisted: its channel and its decoder of chunks are watched while its tests run ----
 
 
 class Named(unittest.TestResult):
-    def startTest(self, test):
+    of, test = "", ""
+
+    def startTest(self, test: unittest.TestCase) -> None:
         super().startTest(test)
         Named.of, _, Named.test = test.id().rpartition(".")
 
 
-def watch_requests(http):
+def watch_requests(http: Any) -> None:
     feed, lose = http.HTTPChannel.dataReceived, http.HTTPChannel.connectionLost
 
-    def fed(channel, data):
+    def fed(channel: Any, data: bytes) -> object:
         channel.__dict__.setdefault("sent", bytearray()).extend(data)
         return feed(channel, data)
 
-    def lost(channel, reason):
+    def lost(channel: Any, reason: object) -> object:
         if hasattr(channel, "sent") and isinstance(said := getattr(channel.transport, "value", bytes)(), bytes):
             seen.append((Named.test, bytes(channel.sent), not said.startswith(b"HTTP/1.1 400") if said else None))
         return lose(channel, reason)
@@ -67,10 +71,10 @@ def watch_requests(http):
     http.HTTPChannel.dataReceived, http.HTTPChannel.connectionLost = fed, lost
 
 
-def watch_chunks(http):
-    feed, decoders = http._ChunkedTransferDecoder.dataReceived, {}
+def watch_chunks(http: Any) -> None:
+    feed, decoders = http._ChunkedTransferDecoder.dataReceived, dict[object, int]()
 
-    def fed(decoder, data):
+    def fed(decoder: Any, data: bytes) -> None:
         if not Named.of.endswith(".ChunkedTransferEncodingTests"):
             feed(decoder, data)
             return  # watched as a part of its request
@@ -90,7 +94,7 @@ def watch_chunks(http):
     http._ChunkedTransferDecoder.dataReceived = fed
 
 
-def of_twisted(_):
+def of_twisted(_: str) -> str:
     http, tests = (importlib.import_module(f"twisted.web.{it}") for it in ("http", "test.test_http"))
     watch_requests(http)
     watch_chunks(http)
@@ -101,12 +105,12 @@ def of_twisted(_):
 # ---- h11: so are its reader of heads and the test of its reader of chunks ----
 
 
-def watch_heads(h11, test):
+def watch_heads(h11: Any, test: Callable[[], str]) -> None:
     """Heads of requests; the body that one promises is put behind it."""
     place = h11._state.CLIENT, h11._state.IDLE
     read = h11._readers.READERS[place]
 
-    def reads(buffer):
+    def reads(buffer: Any) -> object:
         before = bytes(buffer)
         try:
             event = read(buffer)
@@ -122,11 +126,11 @@ def watch_heads(h11, test):
     h11._readers.READERS[place] = reads
 
 
-def watch_bodies(h11, tests):
+def watch_bodies(h11: Any, tests: Any) -> None:
     """Chunks, and the body that is expected of them."""
     check = tests.t_body_reader
 
-    def checks(thunk, data, expected, do_eof=False):
+    def checks(thunk: Callable[[], object], data: bytes, expected: list[object], do_eof: bool = False) -> object:
         if isinstance(thunk(), h11._readers.ChunkedReader):
             seen.append(("test_ChunkedReader", CHUNKED + data, isinstance(expected[-1], h11.EndOfMessage)))
         return check(thunk, data, expected, do_eof)
@@ -134,7 +138,7 @@ def watch_bodies(h11, tests):
     tests.t_body_reader = checks
 
 
-def of_h11(_):
+def of_h11(_: str) -> str:
     h11 = importlib.import_module("h11")
     modules = [importlib.import_module(f"h11.tests.{it}") for it in ("test_io", "test_connection", "test_headers")]
     name = [""]
@@ -149,7 +153,7 @@ def of_h11(_):
 # ---- llhttp: its tests are pages with requests and what its parser says ----
 
 
-def unescaped(text):
+def unescaped(text: str) -> str:
     """A request as llhttp's test/md-test.ts reads it."""
     text = re.sub(r"\\(\r\n|\r|\n)", "", text.removesuffix("\n"))
     text = re.sub(r"\r\n|\r|\n", "\r\n", text)
@@ -159,7 +163,7 @@ def unescaped(text):
     return re.sub(r"\\([0-7]{1,3})", lambda it: chr(int(it[1], 8)), text)
 
 
-def of_llhttp(folder):
+def of_llhttp(folder: str) -> str:
     block = re.compile(r'^#+ ([^\n]*)\n|^<!-- *meta=\{ *"type": *"request" *(?:, *"noScan": *true *)?\} *-->\n'
                        r'```http\n(.*?)```\n[^`]*```log\n(.*?)```', re.M | re.S)
     for page in sorted(pathlib.Path(folder, "test/request").glob("*.md")):
@@ -175,7 +179,7 @@ def of_llhttp(folder):
 # ---- this server ----
 
 
-def for_tenant(data, accepted):
+def for_tenant(data: bytes, accepted: bool) -> bytes:
     """The same for the tenant; whole, though the judge stops reading where it rejects."""
     data = re.sub(rb"^((?:\r\n)*)(?:GET|HEAD|POST|PUT|DELETE|OPTIONS|PATCH) /[!-~]* HTTP/1", rb"\1POST /hello HTTP/1", data)
     if not re.search(rb"(?i)\nhost *:", data):
@@ -183,7 +187,7 @@ def for_tenant(data, accepted):
     return data if accepted else data + (b"\r\n0\r\n\r\n" if b"chunked\r\n\r\n" in data else b"\r\n\r\n")
 
 
-def status(port, data):
+def status(port: int, data: bytes) -> int | None:
     """The status of the first response, or None."""
     with socket.create_connection(("127.0.0.1", port), 60) as link:
         try:
@@ -194,9 +198,9 @@ def status(port, data):
     return int(told[1]) if told else None
 
 
-def main(port, judge, *words):
-    told_of = {"twisted": of_twisted, "h11": of_h11, "llhttp": of_llhttp}[judge](words[0] if words else None)
-    judged = [it for it in seen if it[2] is not None and not re.search(ITS_OWN[judge], it[0])]
+def main(port: int, judge: str, *words: str) -> int:
+    told_of = {"twisted": of_twisted, "h11": of_h11, "llhttp": of_llhttp}[judge](words[0] if words else "")
+    judged = [(test, data, accepted) for test, data, accepted in seen if accepted is not None and not re.search(ITS_OWN[judge], test)]
     vectors = sorted({(test, for_tenant(data, accepted), accepted) for test, data, accepted in judged})
     with concurrent.futures.ThreadPoolExecutor(16) as pool:
         statuses = list(pool.map(lambda it: status(port, it[1]), vectors))

@@ -8,6 +8,8 @@ usage: random_modules.py make FOLDER COUNT [SEED]      changed copies of rules.w
 FOLDER may have modules of any other generator: functions f(i64) -> i64, t(i32, i32, i32, i32) -> i32, room and uv_work are called.
 """
 
+from __future__ import annotations
+
 import collections
 import concurrent.futures
 import http.client
@@ -20,6 +22,7 @@ import socket
 import subprocess
 import sys
 import time
+from typing import Counter, Iterator
 
 TOP = pathlib.Path(__file__).resolve().parent.parent
 OPS = (0, 1, 2, 3, 4, 5, 6)
@@ -35,11 +38,11 @@ FUNCTIONS = (
 )
 
 
-def modules(folder):
+def modules(folder: str) -> list[pathlib.Path]:
     return sorted(pathlib.Path(folder).glob("*.wasm"), key=lambda p: (len(p.name), p.name))
 
 
-def make(folder, count, seed=1):
+def make(folder: str, count: str, seed: str = "1") -> None:
     os.makedirs(folder, exist_ok=True)
     random.seed(int(seed))
     seeds = [TOP / "hosts/guest/rules.wasm"] * 8 + sorted((TOP / "examples").glob("*.wasm"))
@@ -51,7 +54,7 @@ def make(folder, count, seed=1):
         (pathlib.Path(folder) / f"{k}.wasm").write_bytes(data)
 
 
-def statements(k, data):
+def statements(k: int, data: bytes) -> Iterator[str]:
     yield "SET statement_timeout = 500;"                # a set may be endless
     yield f"INSERT INTO wasmloop.module VALUES ('m{k}', decode('{data.hex()}', 'hex'));"
     for name, takes, gives, exports, given in FUNCTIONS:
@@ -62,8 +65,8 @@ def statements(k, data):
     yield f"DELETE FROM wasmloop.module WHERE name = 'm{k}';"
 
 
-def postgres(where, folder):
-    def session(part):
+def postgres(where: str, folder: str) -> bool:
+    def session(part: list[tuple[int, pathlib.Path]]) -> tuple[bool, Counter[str]]:
         script = ["SELECT pg_backend_pid();"] + [s for k, path in part for s in statements(k, path.read_bytes())] + ["SELECT pg_backend_pid();"]
         psql = ["psql", "-X", "-q", "-A", "-t", "-v", "VERBOSITY=sqlstate", "-h", where, "-U", "postgres", "postgres"]
         ran = subprocess.run(psql, input="\n".join(script), capture_output=True, text=True)
@@ -76,7 +79,7 @@ def postgres(where, folder):
     return all(same)
 
 
-def nginx(conf, pid, port, folder):
+def nginx(conf: str, pid: str, port: str, folder: str) -> bool:
     text = pathlib.Path(conf).read_text()
     # (4: it has run, and did not return; another status: it is rejected, or has no uv_work)
     tried = [(p, subprocess.run([TOP / "dist/wasmloop", "work", p, "0", "--fuel", "0"], capture_output=True).returncode) for p in modules(folder)]
@@ -84,9 +87,9 @@ def nginx(conf, pid, port, folder):
     places = "".join(f"location /m{k} {{ wasmloop {p} {k % 7}; wasmloop_time 100ms; }}\n" for k, p in enumerate(accepted))
     pathlib.Path(conf).write_text(text.replace("#RANDOM", places))
 
-    def requests(numbers):
+    def requests(numbers: list[int]) -> Counter[int | str]:
         random.seed(numbers[0])
-        codes = collections.Counter()
+        codes: Counter[int | str] = collections.Counter()
         connection = http.client.HTTPConnection("127.0.0.1", int(port), timeout=20)
         for k in numbers:
             for size in (0, 5, random.randrange(65536)):
@@ -107,17 +110,18 @@ def nginx(conf, pid, port, folder):
         for _ in range(3):
             time.sleep(1)
             os.kill(int(pid), signal.SIGHUP)
-        codes = sum((d.result() for d in done), collections.Counter())
+        codes: Counter[int | str] = sum((d.result() for d in done), collections.Counter())
     print(f"nginx: {len(modules(folder))} modules, {len(accepted)} accepted; answers: {dict(codes)}")
     return codes[404] == 0 and codes["closed"] < 100
 
 
-def redis(where, folder):
+def redis(where: str, folder: str) -> bool:
     server = socket.socket(socket.AF_UNIX)
     server.connect(where)
-    file, counts = server.makefile("rb"), collections.Counter()
+    file = server.makefile("rb")
+    counts: Counter[str] = collections.Counter()
 
-    def command(*words):
+    def command(*words: bytes) -> str:
         server.sendall(b"*%d\r\n" % len(words) + b"".join(b"$%d\r\n%s\r\n" % (len(w), w) for w in words))
         line = file.readline()
         if line[:1] == b"$" and line != b"$-1\r\n":

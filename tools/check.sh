@@ -1,5 +1,5 @@
 #!/bin/sh
-# What can be said of a change without a proof, in some ten seconds: layout, the pages beside the tree, scripts and C files. The gate
+# What can be said of a change without a proof, in some twenty seconds of a processor: layout, the pages beside the tree, scripts and C files. The gate
 # (.ci/run) does the rest. As a hook before each commit: ln -s ../../tools/check.sh .git/hooks/pre-commit
 #
 # usage: tools/check.sh [layout]       ends with 1 if anything is wrong; a program that isn't there is left out, and said
@@ -18,15 +18,18 @@ try git diff --check HEAD
 if has shellcheck; then files '*.sh' wasmloop .ci/run .ci/nightly | xargs shellcheck --severity=warning || wrong=1; fi
 width=$(sed -n 's/^max_line_length = //p' .editorconfig | head -n 1)
 if has flake8; then files '*.py' | xargs flake8 --max-line-length="$width" || wrong=1; fi
-# (what has no types yet: a folder leaves this list once all of it has them)
-untyped='^bench/(cost|embed|fuel|kernels|libraries|peers)/|^capi/test/|^examples/|^hosts/'
-# mypy of some files, or of those in a folder: modules of several folders have one name
+# mypy of the package and the tools, and of each other folder, since modules of several have one name; MYPYPATH: the folders whose modules others use
+together='^(build|capi/make_wheel|capi/python/.*|tools/.*)\.py$'
+# (what has no types yet)
+untyped='^examples/edge/(bench/|other/|[^/]*$)'
+export MYPYPATH=capi/python:trials/programs:trials/spec:bench/cost:bench/peers:bench/kernels:examples/kit:examples/libraries:examples/rust/crates:examples/edge
 strict() { mypy --strict --no-error-summary --cache-dir="${XDG_CACHE_HOME:-$HOME/.cache}/wasmloop/mypy" "$@"; }
 if has mypy; then
     # shellcheck disable=SC2046 # (no file's name has a blank)
-    strict $(files '*.py' | grep -vE "$untyped|^bench/|^trials/") || wrong=1
-    for folder in $(files 'bench/*.py' 'trials/*.py' | grep -vE "$untyped" | sed 's|/[^/]*$||' | sort -u); do
-        MYPYPATH=capi/python:trials/programs:trials/spec strict "$folder"/*.py || wrong=1
+    strict $(files '*.py' | grep -E "$together") || wrong=1
+    for folder in $(files '*.py' | grep -vE "$together|$untyped" | sed 's|/[^/]*$||' | sort -u); do
+        # shellcheck disable=SC2046 # (no file's name has a blank)
+        strict $(files "$folder/*.py" | grep -vE "$untyped|^$folder/.*/") || wrong=1
     done
 fi
 if has cc; then for file in capi/wasmloop.c capi/names.c; do try cc -std=c99 -Wall -Wextra -Werror -Icapi/include -fsyntax-only "$file"; done; fi

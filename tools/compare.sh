@@ -7,12 +7,12 @@ set -u
 cd "$(dirname "$0")/.." || exit 1
 wrong=0
 fail() { echo "FAILED: $1"; wrong=1; }
-for tool in audit calls citations picture header limits operations plain refused rules shape uv; do
+for tool in audit calls citations costs picture header limits operations plain refused rules shape uv; do
     python3 "tools/$tool.py" || fail "tools/$tool.py"
     if [ "${1:-}" = --self-test ] && grep -q -e '"self-test"' "tools/$tool.py"; then
         planted=$(python3 "tools/$tool.py" --self-test) || { echo "$planted"; fail "tools/$tool.py --self-test"; }
     fi
 done
-for tool in bodies wrong; do python3 "tools/$tool.py" --check || fail "tools/$tool.py --check"; done
+for tool in tools/bodies.py tools/wrong.py capi/test/bodies.py; do python3 "$tool" --check || fail "$tool --check"; done
 [ "${1:-}" != --self-test ] || python3 tools/wrong.py --self-test || fail "tools/wrong.py --self-test"
 exit $wrong

@@ -6,6 +6,7 @@ import functools
 import glob
 import os
 import re
+from pathlib import Path
 from typing import Dict, Iterable, List, Mapping, NamedTuple, Optional, Sequence, Tuple, Union
 
 PARTS = ("src", "specs", "proofs")
@@ -14,11 +15,6 @@ TYPE = re.compile(r"(?m)^(?:pub(?:\([a-z]+\))? )?(?:struct|enum|union) (\w+)")
 CLAUSE = re.compile(r"\s*(?:requires|ensures|ghost|where|measure|decreases|#\[|///)")
 PROMISE = re.compile(r"(?m)^# promise: (\S.*)$")
 WANTED = re.compile(r"(?m)^# refused: (\S+): (\S.*)$")
-
-
-def text_of(file: str) -> str:
-    with open(file, encoding="utf-8") as it:
-        return it.read()
 
 
 class Alone(str):
@@ -40,14 +36,14 @@ class Edit:
     def __init__(self, path: str) -> None:
         self.folder, self.name = os.path.dirname(os.path.dirname(path)), os.path.basename(path)[: -len(".edit")]
         self.path, self.label = path, f"{os.path.basename(self.folder)}/{self.name}"
-        text = text_of(path)
+        text = Path(path).read_text(encoding="utf-8")
         promised = PROMISE.search(text)
         self.promise = promised and promised[1]
         self.wanted = {function: goals.split(", ") for function, goals in WANTED.findall(text)}
         self.pairs = pairs_of(text)
         self.fault = self.fault_in({})
         homes = homes_in(self.folder)
-        found = [] if self.fault else [place_in(file, text_of(f"{self.folder}/{file}"), old, homes) for file, old, _ in self.pairs]
+        found = [] if self.fault else [place_in(file, Path(f"{self.folder}/{file}").read_text(encoding="utf-8"), old, homes) for file, old, _ in self.pairs]
         self.alone: Optional[str] = self.fault or next((it for it in found if isinstance(it, Alone)), None)
         self.places = [] if self.alone else [it for it in found if isinstance(it, Place)]
         self.functions = list(self.wanted) if self.alone else list(dict.fromkeys(it.name for it in self.places))
@@ -60,7 +56,7 @@ class Edit:
             if file not in laid:
                 if not file.startswith(tuple(f"{it}/" for it in PARTS)) or not os.path.isfile(f"{self.folder}/{file}"):
                     return f"there is no {file}"
-                laid[file] = text_of(f"{self.folder}/{file}")
+                laid[file] = Path(f"{self.folder}/{file}").read_text(encoding="utf-8")
             before.setdefault(file, laid[file])
             if laid[file].count(old) != 1:
                 return f"an 'old:' text is in {file} {laid[file].count(old)} times, and not once"
@@ -72,7 +68,7 @@ class Edit:
 
     def note(self, found: Mapping[str, Sequence[str]]) -> None:
         """Writes into its file where it was refused."""
-        kept = WANTED.sub("", text_of(self.path)).lstrip("\n")
+        kept = WANTED.sub("", Path(self.path).read_text(encoding="utf-8")).lstrip("\n")
         with open(self.path, "w", encoding="utf-8") as it:
             it.write("".join(f"# refused: {function}: {', '.join(goals)}\n" for function, goals in found.items()) + kept)
 
@@ -98,7 +94,7 @@ def homes_in(folder: str) -> Mapping[str, List[str]]:
     """For each type of a crate the modules that it is defined in."""
     homes = {}
     for path in glob.glob(f"{folder}/src/**/*.rt", recursive=True):
-        for name in TYPE.findall(text_of(path)):
+        for name in TYPE.findall(Path(path).read_text(encoding="utf-8")):
             homes[name] = modules_of(os.path.relpath(path, folder))
     return homes
 

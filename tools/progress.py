@@ -5,6 +5,7 @@ from __future__ import annotations
 import collections
 import contextlib
 import os
+import platform
 import re
 import time
 from typing import Collection, DefaultDict, Dict, List, NamedTuple, Optional, Set, Tuple
@@ -150,10 +151,16 @@ class Watch:
         sums: DefaultDict[Tuple[str, str], float] = collections.defaultdict(float)
         for (_, _, crate, kind), seconds in self.used.items():
             sums[crate, kind] += seconds
-        lines = [f"# crate: seconds of its proof, of its tests' proofs, of its wrong bodies; {os.cpu_count()} processors, {memory():.0f} GB"]
+        lines = [f"# crate: seconds of its proof, of its tests' proofs, of its wrong bodies; {os.cpu_count()} processors ({model()}), {memory():.0f} GB"]
         lines += [f"{crate}: " + " ".join(f"{sums[crate, kind]:.0f}" for kind in KINDS) for crate in self.crates]
         totals = [sum(sums[crate, kind] for crate in self.crates) for kind in KINDS]
         return "\n".join([*lines, "# all: " + " ".join(f"{it:.0f}" for it in totals) + f", {sum(totals) / 60:.0f} minutes"]) + "\n"
+
+
+def model() -> str:
+    """What the processors are, by which the seconds differ from machine to machine."""
+    named = re.search(r"^model name\s*: (.*)", text_of("/proc/cpuinfo"), re.M)
+    return named[1] if named else platform.machine()
 
 
 def memory() -> float:

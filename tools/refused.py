@@ -24,7 +24,7 @@ from typing import Iterator, Optional
 from sources import TOP, Sources as Texts, asked, finish, plant
 
 LIST = "tools/refused.txt"
-WORDS = re.compile(r"\bAllocError\b|\b(?:\w+Fault|Refusal|Refused|Outcome|JobEnd)::(?:Memory|NoMemory)\b|(?<!::)\b(?:MEMORY|NO_MEMORY|NoMemory)\b")
+WORDS = re.compile(r"\bAllocError\b|\b(?:\w+Fault|Refusal|Refused|Outcome|JobEnd)::(?:Memory|NoMemory)\b|(?<!::)\b(?:MEMORY|NO_MEMORY|NoMemory)\b|\bRefused(?:Memory|Room) \{")
 GIVEN_BACK = re.compile(r"\bErr\((?:self|same|core)\)")
 PASSED_ON = re.compile(WORDS.pattern + r"|\bOutOfMemory\b|\bis_memory\(\)")
 ELSE = re.compile(r"\s*[)}\]]*\s*else \{$")
@@ -128,7 +128,7 @@ def faults(sources: Sources, found: Optional[list[tuple[str, int, str]]] = None)
 PLANTED = [  # what is wrong, and where which text becomes which
     ("a step has no memory", "crates/phases/src/slices.rt", r"let mut core = self;",
      "if self.host.copied == 12345 {\n            return Err(self);\n        }\n        let mut core = self;"),
-    ("an export's number is out of memory", "crates/wasmloop_c/src/instances.rt", r"return Err\(NONE\);", "return Err(MEMORY);"),
+    ("an export's number is out of memory", "crates/wasmloop_c/src/instances.rt", r"return NONE;", "return MEMORY;"),
     ("a length is answered as want of memory", "crates/phases/src/work.rt", r"let request = requests\.last\(\) \+ 1;",
      "if op == 7 {\n        return NO_MEMORY;\n    }\n    let request = requests.last() + 1;"),
     ("a refusal becomes want of memory", "crates/loader/src/loading.rt", r"Err\(fault\) => Err\(Refusal::Decode\(fault\)\)", "Err(_) => Err(Refusal::Memory)"),

@@ -17,6 +17,7 @@ import os
 import re
 import subprocess
 import sys
+from pathlib import Path
 from typing import Callable, Dict, Iterable, List, Mapping, Sequence, Set, Union
 
 TOP = os.path.dirname(os.path.dirname(os.path.realpath(__file__)))
@@ -32,8 +33,7 @@ REFUSED = re.compile(r"^(?:rt: )?must-fail (\w+/\S+)\.edit: refused, as it must 
 
 
 def text_of(path: str) -> str:
-    with open(path, encoding="utf-8", errors="replace") as file:
-        return file.read()
+    return Path(path).read_text(encoding="utf-8", errors="replace")
 
 
 def sums(path: str) -> List[List[str]]:

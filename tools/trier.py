@@ -12,6 +12,7 @@ import sys
 import tempfile
 import threading
 import time
+from pathlib import Path
 from typing import Dict, Iterator, List, Mapping, Optional, Sequence, Set, Tuple
 
 TOP = os.path.dirname(os.path.dirname(os.path.realpath(__file__)))
@@ -21,8 +22,8 @@ import build  # noqa: E402
 import edits as edits_of_tree  # noqa: E402
 import kept  # noqa: E402
 import verdicts  # noqa: E402
-from edits import PARTS, Copy, Edit, copies_of, text_of  # noqa: E402
-from verdicts import BAD, KEPT, MISSED, REFUSED, UNSURE, told_by_lemmas, told_in, verdict  # noqa: E402
+from edits import PARTS, Copy, Edit, copies_of  # noqa: E402
+from verdicts import BAD, KEPT, MISSED, REFUSED, UNSURE, told_in, verdict  # noqa: E402
 
 # What a verdict is made by: what it was is kept as long as these are the same.
 MADE_BY = [__file__, edits_of_tree.__file__, verdicts.__file__]
@@ -41,10 +42,11 @@ class Kept:
         return build.sum_over_built(self.rtlib, self.crate, MADE_BY)
 
     def file(self, edit: Edit) -> str:
-        return f"{self.folder}/{hashlib.sha256((self.first + text_of(edit.path)).encode()).hexdigest()}"
+        made = self.first + Path(edit.path).read_text(encoding="utf-8")
+        return f"{self.folder}/{hashlib.sha256(made.encode()).hexdigest()}"
 
     def find(self, edit: Edit) -> Optional[str]:
-        return text_of(self.file(edit)) if os.path.isfile(self.file(edit)) else None
+        return Path(self.file(edit)).read_text(encoding="utf-8") if os.path.isfile(self.file(edit)) else None
 
     def keep(self, refused: Mapping[Edit, str]) -> None:
         """Keeps what was refused, unless something that it rests on was changed meanwhile."""
@@ -130,7 +132,7 @@ class Trier:
             # (one of them is no code, say)
             self.apart.update(copy.edits)
             return {}
-        told = told_in(said, [it for edit in copy.edits for it in edit.places])
+        told = told_in(said, [it for edit in copy.edits for it in edit.places]).goals
         return {edit: verdict(edit, told) for edit in copy.edits}
 
     def by_itself(self, edit: Edit) -> Tuple[str, str]:
@@ -147,9 +149,9 @@ class Trier:
             first = next((it for it in said.splitlines() if re.search(r"\berror\b", it)), "")
             no_code = BAD, f"it is no code that the prover is asked of: {first[:200]}"
             return no_code if status == 1 else (UNSURE, f"its check ended with status {status}")
-        told = told_in(said, edit.places)
+        told, by_lemmas = told_in(said, edit.places)
         if not edit.functions and not any(told.values()):
-            told = told_by_lemmas(said)
+            told = by_lemmas
         if not edit.functions and not any(told.values()):
             return (MISSED, "the crate is still proved") if status == 0 else (UNSURE, "no function's line says what is not proved")
         return verdict(edit, told) or (UNSURE, "the lines of its functions say nothing of it")

@@ -10,6 +10,7 @@ from __future__ import annotations
 
 import re
 import sys
+import textwrap
 from typing import Iterator, Sequence
 
 from rows import Edit, Place, Row, agree, edited, keep, write
@@ -192,7 +193,7 @@ PLACES = [
     Place(SCRIPTED, {"emit": None, "*": "case {constant}: return {cast}uv_{name}({by_trial});"},
           r"case (?P<key>[A-Z_]+): return (?:\(int64_t\))?(?P<text>uv_\w+)[^\n]*", r"^static int64_t answer"),
     Place(FUZZ, {"*": "{name}: [[{takes}], [{gives}]],"}, r"\b(?P<key>\w+): \[\[[^]]*\], \[[^]]*\]\],?", "const UV = {", "};", partial=True),
-    Place(FUEL, {"*": '"{name}": ([{takes}], [{gives}]),'}, r'"(?P<key>\w+)": \(\[[^]]*\], \[[^]]*\]\),?', "^CALLS = {", r"\n\}", partial=True),
+    Place(FUEL, {"*": '"{name}": ([{takes}], [{gives}]),'}, r'"(?P<key>\w+)": \(\[[^]]*\], \[[^]]*\]\),?', "^CALLS: .* = {", r"\n\}", partial=True),
 ]
 # What else is made of all calls: where it stands, and of what it is one: how many there are, their names, or the names of those of work.
 COUNT, NAMES, WORKING = "count", "names", "working"
@@ -279,11 +280,8 @@ def page_of(text: str) -> str:
     return "".join(lines).rstrip("\n") + "\n"
 
 
-def wrapped(text: str, width: int = 130) -> str:
-    lines = [""]
-    for word in text.split(" "):
-        lines.append(word) if len(lines[-1]) + 1 + len(word) > width else lines.append(f"{lines.pop()} {word}".strip())
-    return "\n".join(lines)
+def wrapped(text: str) -> str:
+    return textwrap.fill(text, 130, break_long_words=False, break_on_hyphens=False)
 
 
 def host_types(sources: Sources) -> dict[str, str]:

@@ -3,12 +3,14 @@
 from __future__ import annotations
 
 import re
-from typing import Dict, List, Mapping, Optional, Protocol, Sequence, Tuple
+from typing import Dict, List, Mapping, NamedTuple, Optional, Protocol, Sequence, Tuple
 
 from edits import Place
 
 # (that a proof names what the edit took away says nothing of the contract)
 GONE = re.compile(r"has no field|is not in scope|has no `|was not admitted")
+# an error at a line of a proof: its folder below proofs/, the goal where it names one, and what it says
+ERROR = re.compile(r"(?m)(?:^|/)proofs/(?:(\S*)/)?[^\s/]+\.antt:\d+:\d+: error: (?:`([^`]+)`: )?(.*)")
 REFUSED, MISSED, ELSEWHERE, BAD, UNSURE = "refused", "NOT REFUSED", "NOT REFUSED AS SAID", "BAD EDIT", "NOT TRIED"
 KEPT, UNNAMED = " (kept from an earlier run)", "what rattle does not name"
 
@@ -18,32 +20,36 @@ def clause_of(goal: str) -> str:
     return goal.rpartition("-clause-")[2] if "-clause-" in goal else "returns" if re.match(r"returns\b", goal) else goal
 
 
-def told_in(said: str, places: Sequence[Place] = ()) -> Dict[str, List[str]]:
-    """What a check says of each function that is not proved: the clauses of the goals that are left. Of a proved one: none."""
-    told: Dict[str, List[str]] = {}
+class Told(NamedTuple):
+    """What a check says of functions, by their names."""
+
+    # of each that is not proved the clauses of its goals that are left, of a proved one none
+    goals: Dict[str, List[str]]
+    # where lemmas no longer hold, as when a changed definition leaves no goal of a function: these, of each that is not proved
+    lemmas: Dict[str, List[str]]
+
+
+def told_in(said: str, places: Sequence[Place] = ()) -> Told:
+    """What a check says of each function that it names."""
+    told, errors = Told({}, {}), ERROR.findall(said)
+    lemmas = list(dict.fromkeys(goal for _, goal, why in errors if goal and not GONE.search(why)))
     for name, words in re.findall(r"^fn \w+::(\S+): (.*)", said, re.M):
         if words == "proved":
-            told[name] = []
+            told.goals[name] = []
+        if words.startswith("not proved") and lemmas:
+            told.lemmas[name] = lemmas
         goals = re.search(r"did not prove (`[^;]*`)", words)
         left = re.findall(r"`([^`]+)`", goals[1]) if goals else []
         # (where its proof is by hand: what that does not prove, and what is open at its lines)
         folder = re.sub(r"(\w+)$", r"\\+?\1", name.replace("::", "/"))
-        errors = re.findall(rf"(?:^|/)proofs/{folder}/\w+\.antt:\d+:\d+: error: (?:`([^`]+)`: )?(.*)", said, re.M)
-        left += [goal or UNNAMED for goal, why in errors if not GONE.search(why)]
+        own = [(goal, why) for its, goal, why in errors if re.fullmatch(folder, its)]
+        left += [goal or UNNAMED for goal, why in own if not GONE.search(why)]
         for file, line, goal in re.findall(r"^note: (src/\S+?):(\d+):\d+: it is not proved that .*?\(`([^`]+)`\)", said, re.M):
             left += [goal for it in places if it.name == name and it.file == file and it.first <= int(line) <= it.last]
-        left += [] if left or errors or "it calls `" in words else [UNNAMED]
+        left += [] if left or own or "it calls `" in words else [UNNAMED]
         if words.startswith(("not proved", "no proof")) and left:
-            told[name] = list(dict.fromkeys(map(clause_of, left)))
+            told.goals[name] = list(dict.fromkeys(map(clause_of, left)))
     return told
-
-
-def told_by_lemmas(said: str) -> Dict[str, List[str]]:
-    """Where a changed definition leaves no goal of a function: the functions that are not proved, and the lemmas that no longer hold."""
-    errors = re.findall(r"(?:^|/)proofs/\S+\.antt:\d+:\d+: error: `([^`]+)`: (.*)", said, re.M)
-    lemmas = [lemma for lemma, why in errors if not GONE.search(why)]
-    open_ = re.findall(r"^fn \w+::(\S+): not proved", said, re.M)
-    return {name: list(dict.fromkeys(lemmas)) for name in open_} if lemmas else {}
 
 
 class Asked(Protocol):

@@ -22,12 +22,11 @@ gone; and it is one of those that `# refused:` names, where that line is there. 
 
 Tried alone is one that is not all in bodies of functions (a clause, a constant), or in a function of a cycle, and one whose copy says nothing of its
 function. A function whose line says only that one below isn't proved, as where both are wrong in one copy, is tried in the next copy, without
-that one. Without `# refused:`, one that changes no body may be refused anywhere in the
-crate, or by a lemma that no longer holds.
+that one. Without `# refused:`, one that changes no body may be refused anywhere in the crate, or by a lemma that no longer holds.
 
 The libraries below are those that build.py has, and are built if they aren't; with --over-gate those that `rt ci` has left in out/rlib; with --over
 those of FOLDER, NAME.rlib each: a crate is tried once all below it and its own are there, until FOLDER has a file `over`. What was refused is
-kept on this machine, in ~/.cache/wasmloop, by the sums of all that it rests on: kit, crate, libraries, wrong body and this file. --anew tries all.
+kept on this machine, in ~/.cache/wasmloop, by the sums of all that it rests on: kit, crate, libraries, wrong body and the files that try it. --anew tries all.
 """
 
 from __future__ import annotations
@@ -41,6 +40,7 @@ import sys
 import threading
 import time
 from concurrent.futures import Future, ThreadPoolExecutor
+from pathlib import Path
 from typing import Collection, Counter, Dict, Iterator, List, Mapping, Optional, Sequence, Set
 
 TOP = os.path.dirname(os.path.dirname(os.path.realpath(__file__)))
@@ -48,17 +48,11 @@ sys.dont_write_bytecode = True
 sys.path.insert(0, TOP)
 import build  # noqa: E402
 import wrong_test  # noqa: E402
-from edits import Edit, copies_of, text_of  # noqa: E402
+from edits import Edit, copies_of  # noqa: E402
 from trier import LOOK, Kept, Trier  # noqa: E402
 from verdicts import BAD, KEPT, REFUSED, UNNAMED, UNSURE  # noqa: E402
 
 FOLDERS = ("must-fail", "wrong")
-FN = re.compile(r'^(\s*)(?:pub(?:\([a-z]+\))? )?(?:const )?(?:unsafe )?(?:extern "C" )?fn (\w+)')
-# (that a proof names what the edit took away says nothing of the contract)
-GONE = re.compile(r"has no field|is not in scope|has no `|was not admitted")
-CLAUSE = re.compile(r"\s*(?:requires|ensures|ghost|where|measure|decreases|#\[|///)")
-PROMISE = re.compile(r"(?m)^# promise: (\S.*)$")
-WANTED = re.compile(r"(?m)^# refused: (\S+): (\S.*)$")
 
 
 def edits_of(crate: str, wanted: Collection[str] = (), promises: bool = False) -> List[Edit]:
@@ -69,7 +63,7 @@ def edits_of(crate: str, wanted: Collection[str] = (), promises: bool = False) -
 
 
 def every_crate() -> List[str]:
-    return re.findall(r"(?m)^(\w+)[^:\n]*:", text_of(f"{TOP}/crates.txt"))
+    return re.findall(r"(?m)^(\w+)[^:\n]*:", Path(f"{TOP}/crates.txt").read_text(encoding="utf-8"))
 
 
 def check() -> int:

@@ -14,7 +14,7 @@ sys.path.insert(0, TOP)
 import build  # noqa: E402
 from edits import Alone, Edit, Place, place_in  # noqa: E402
 from trier import Kept, Trier  # noqa: E402
-from verdicts import BAD, ELSEWHERE, MISSED, REFUSED, told_by_lemmas, told_in, verdict  # noqa: E402
+from verdicts import BAD, ELSEWHERE, MISSED, REFUSED, told_in, verdict  # noqa: E402
 
 CODE = """use a::b;
 
@@ -70,9 +70,9 @@ def known() -> int:
         wrong += [] if is_right else [f"{old!r} is of {place!r}"]
     away = place_in("src/m.rt", CODE, "let a = 1;", {"OneTwo": ["n", "o"]})
     wrong += [] if isinstance(away, Place) and away.name == "n::o::OneTwo::f" else [f"the method of a type of another file is {away!r}"]
-    told = told_in(SAID, [Place("h", "src/h.rt", 8, 12)])
+    told = told_in(SAID, [Place("h", "src/h.rt", 8, 12)]).goals
     wrong += [] if told == TOLD else [f"told is {told}"]
-    by_lemmas = told_by_lemmas(LEMMAS)
+    by_lemmas = told_in(LEMMAS).lemmas
     wrong += [] if by_lemmas == {"h": ["one_more"]} else [f"told by lemmas is {by_lemmas}"]
     verdicts = [
         (Said(["f"]), MISSED), (Said(["h"]), REFUSED), (Said(["i"]), None), (Said(["f", "h"]), REFUSED), (Said(["h"], {"h": ["a"]}), ELSEWHERE),

@@ -4,12 +4,16 @@ call of a kept instance, by valgrind's callgrind, which don't swing as times do 
 
 Each is the difference of two runs, the second with more callbacks, requests or calls, divided by them: a start of the
 process is in neither. The C library fills memory without `rep stosb`, of which valgrind counts each byte as an instruction."""
+
+from __future__ import annotations
+
 import os
 import pathlib
 import re
 import subprocess
 import sys
 import tempfile
+from typing import Callable
 
 import common
 import loop
@@ -25,7 +29,7 @@ VALGRIND = ["valgrind", "--tool=callgrind", "--callgrind-out-file=/dev/null"]
 WITHOUT_REP = {**os.environ, "GLIBC_TUNABLES": "glibc.cpu.x86_rep_stosb_threshold=100000000"}
 
 
-def instructions(command, good):
+def instructions(command: common.Command, good: str) -> int:
     """The instructions of a run that prints these words."""
     done = subprocess.run([*VALGRIND, *command], capture_output=True, text=True, env=WITHOUT_REP)
     found = re.search(r"Collected : (\d+)", done.stderr)
@@ -34,12 +38,12 @@ def instructions(command, good):
     return int(found[1])
 
 
-def counted(program, module, fuel):
+def counted(program: str, module: str, fuel: str) -> int:
     """The instructions of a run of `serve`."""
     return instructions(common.serve(program, module, fuel, "1000000"), "loop 0 over")
 
 
-def kept(library, folder):
+def kept(library: pathlib.Path, folder: str) -> None:
     """Calls of an instance that is kept, by the library for C."""
     header = common.HERE.parents[1] / "capi" / "include"
     host = common.compiled(f"{folder}/instance", common.HERE / "instance.c", f"-I{header}", library)
@@ -49,12 +53,12 @@ def kept(library, folder):
         print(f"kept {kind:11} {took:8.0f}", flush=True)
 
 
-def each(numbers, count):
+def each(numbers: tuple[int, int], count: Callable[[int], int]) -> float:
     few, many = map(count, numbers)
     return (many - few) / (numbers[1] - numbers[0])
 
 
-def main(program, folder):
+def main(program: str, folder: str) -> None:
     by_loop, by_work = loop.Bench(program, folder), work.Bench(program, folder)
     for scene, handles in SCENES:
         took = each(CALLBACKS, lambda it: counted(program, by_loop.guest(scene, it, it, handles), "--fuel"))

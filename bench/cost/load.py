@@ -1,6 +1,9 @@
 #!/usr/bin/env python3
 """load.py PROGRAM [FOLDER]: check of modules of 1 KB, 100 KB and 1 MB beside wasm-validate and node, start of the program
 beside others', and the memory that each takes. One processor, in turns, the minimum of 8 to 15."""
+
+from __future__ import annotations
+
 import os
 import pathlib
 import subprocess
@@ -38,7 +41,7 @@ console.log(least / 1e9);
 HELLO = '#include <stdio.h>\nint main(void){puts("hello");return 0;}\n'
 
 
-def module(folder, name, count):
+def module(folder: pathlib.Path, name: str, count: int) -> pathlib.Path:
     """A module of so many functions as clang makes them, each called by the next."""
     functions = [FUNCTION % {"k": k, "b": max(k - 1, 0), "m": k * 7 + 3, "r": k % 7} for k in range(count)]
     text = "typedef unsigned u32; static u32 f0(u32,u32*);static u32 data[64];\n" + "".join(functions)
@@ -48,7 +51,7 @@ def module(folder, name, count):
     return common.linked(folder / f"{name}.wasm", [source], "-O1", link=["--strip-all"])
 
 
-def modules(folder):
+def modules(folder: pathlib.Path) -> list[pathlib.Path]:
     """One of 1 KB, one of 100 KB and one of 1 MB."""
     small = module(folder, "small", 3)
     each = (os.path.getsize(module(folder, "probe", 43)) - os.path.getsize(small)) / 40
@@ -56,21 +59,21 @@ def modules(folder):
 
 
 class Bench:
-    def __init__(self, program, folder):
+    def __init__(self, program: str, folder: pathlib.Path) -> None:
         self.program, self.folder, self.spawn = program, folder, common.spawner(folder)
         self.tiny = folder / "tiny.wasm"
         self.tiny.write_bytes(TINY)
 
-    def spawned(self, command, times=3):
+    def spawned(self, command: common.Command, times: int = 3) -> tuple[float, int]:
         """The least seconds of a process, started from a small one, and its most resident memory in KiB."""
         told = subprocess.run([self.spawn, str(times), *command], stdout=subprocess.PIPE, check=True).stdout.split()
         return float(told[0]), int(told[1])
 
-    def times(self, count, *commands):
+    def times(self, count: int, *commands: common.Command) -> list[float]:
         """The least seconds of each command."""
         return common.least(count, *(lambda it=it: self.spawned(it)[0] for it in commands))
 
-    def reading(self):
+    def reading(self) -> None:
         check, validate = [self.program, "check"], ["wasm-validate"]
         bases = self.times(15, [*check, self.tiny], [*validate, self.tiny])
         print(f"{'bytes':>8} {'ours ms':>8} {'wabt ms':>8} {'ratio':>6} {'V8 ms':>8} {'ratio':>6} {'ours KiB':>9} {'wabt KiB':>9}"
@@ -84,12 +87,12 @@ class Bench:
             print(f"{os.path.getsize(file):8} {ours * 1e3:8.3f} {wabt * 1e3:8.3f} {ours / wabt:6.2f} "
                   f"{v8 * 1e3:8.3f} {ours / v8:6.2f} {resident[0]:9} {resident[1]:9}")
 
-    def starting(self):
+    def starting(self) -> None:
         (self.folder / "hello.c").write_text(HELLO)
         hello = common.compiled(self.folder / "hello", self.folder / "hello.c")
         work = common.guest("work.c", f"{self.folder}/tinywork.wasm", N=1, SIZE=0, TURNS=0, TOUCH=0)
         program, tiny = self.program, self.tiny
-        starts = {
+        starts: dict[str, common.Command] = {
             "hello in C": [hello], "ours --help": [program, "--help"], "ours check tiny": [program, "check", tiny],
             "ours invoke tiny": [program, "invoke", tiny, "run"], "ours work tiny": [program, "work", work, "1"],
             "ours serve, nothing": [program, "serve", tiny, "--loops", "1", "--workers", "1"],
@@ -101,7 +104,7 @@ class Bench:
             print(f"  {name:20} {took * 1e3:8.3f} {self.spawned(command)[1]:8}")
 
 
-def main(program, folder, _):
+def main(program: str, folder: str, _: list[str]) -> None:
     common.alone()
     bench = Bench(program, pathlib.Path(folder))
     bench.reading()

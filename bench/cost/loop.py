@@ -3,6 +3,9 @@
 
 PROGRAM's is the difference of two runs of `serve`, one with 80,000 callbacks more, divided by them: a start of the process
 is in neither. The peers measure themselves, around their loop. In turns, on one processor, the minimum of 7. With scenes only theirs."""
+
+from __future__ import annotations
+
 import common
 
 MANY, FEW = 90_000, 10_000
@@ -18,29 +21,29 @@ CALLING, FEW_CALLING, TURNS, EMITS, MOST = 1100, 100, 1000, 64, 100_000
 
 
 class Bench:
-    def __init__(self, program, folder):
+    def __init__(self, program: str, folder: str) -> None:
         self.program, self.folder, self.native = program, folder, common.native(folder)
 
-    def guest(self, scene, name, callbacks, handles=1):
+    def guest(self, scene: str, name: int | str, callbacks: int | str, handles: int = 1) -> str:
         return common.guest("guest.c", f"{self.folder}/{scene}{handles}_{name}.wasm", SCENE=scene, N=callbacks, K=handles)
 
-    def served(self, module, good="loop 0 over"):
+    def served(self, module: str, good: str = "loop 0 over") -> common.Call:
         """The seconds of a run of `serve`, to be called."""
         command = common.serve(self.program, module, "--fuel", "1000000")
         return lambda: common.wall(command, good)
 
-    def both(self, scene, few, many, handles=1):
+    def both(self, scene: str, few: int, many: int, handles: int = 1) -> list[common.Call]:
         """Two runs, the second with more callbacks."""
         return [self.served(self.guest(scene, callbacks, callbacks, handles)) for callbacks in (few, many)]
 
-    def by_uv(self, scene, callbacks, handles):
+    def by_uv(self, scene: str, callbacks: int, handles: int) -> common.Call:
         return lambda: common.told([self.native, scene, str(callbacks), str(handles)])
 
-    def by_node(self, scene, handles):
+    def by_node(self, scene: str, handles: int) -> common.Call:
         module = self.guest(scene, "node", NODE_CALLBACKS, handles)
         return lambda: common.told(["node", common.HERE / "host.mjs", module, NODE_CALLBACKS], free=True)
 
-    def row(self, scene, peer, handles):
+    def row(self, scene: str, peer: str | None, handles: int) -> tuple[float, float | None, float | None]:
         """The nanoseconds of a callback, libuv's and node's; None where it isn't measured."""
         calls = dict(zip(("few", "many"), self.both(scene, FEW, MANY, handles)))
         if peer:
@@ -50,7 +53,7 @@ class Bench:
         best = dict(zip(calls, common.least(7, *calls.values())))
         return (best["many"] - best["few"]) / (MANY - FEW) * 1e9, best.get("uv"), best.get("node")
 
-    def host_calls(self):
+    def host_calls(self) -> None:
         """What a call of the host takes: 1,000 in a callback, less the same loop with none."""
         scenes = ["PLAIN", "NOW", "ACTIVE", "EMIT"]
         runs = [run for scene in scenes for run in self.both(scene, FEW_CALLING, CALLING)]
@@ -64,20 +67,20 @@ class Bench:
         print(f"libuv: plain {plain:.2f}, uv_now {now - plain:.2f}, uv_is_active {active - plain:.2f} ns")
         print(f"emit, 64 a callback: {each['EMIT'] / EMITS:.1f} ns each, printed and kept")
 
-    def empty_callbacks(self):
+    def empty_callbacks(self) -> None:
         empty, none = self.guest("EMPTY", "serve", 0), self.guest("NONE", "serve", 0)
         took, start = common.least(9, self.served(empty, "loop 0 limit"), self.served(none))
         print(f"an empty callback of an idle: {(took - start) / (MOST - 1) * 1e9:.1f} ns; "
               f"a serve that does nothing: {start * 1000:.2f} ms")
 
-    def calls_of_node(self):
+    def calls_of_node(self) -> None:
         modules = [self.guest(scene, "entry", 1_000_000) for scene in ("EMPTY", "NOW", "PLAIN")]
         seen = [common.words(["node", common.HERE / "entry.mjs", *modules], free=True) for _ in range(5)]
         entry, host = (min(float(words[place]) for words in seen) for place in (1, 4))
         print(f"node: a call from JavaScript {entry:.1f}, a call of the host {host:.1f} ns")
 
 
-def main(program, folder, only):
+def main(program: str, folder: str, only: list[str]) -> None:
     common.alone()
     bench = Bench(program, folder)
     print(f"{'scene':12} {'handles':>7} {'ours ns':>9} {'libuv ns':>9} {'ratio':>6} {'node ns':>9} {'ratio':>6}")

@@ -9,10 +9,14 @@ fewer. Then 1,000 loops with some turns of each in a row, and 1,000 of a guest o
 minimum of five processes; of a process the shortest round, so that what else runs counts little. Then the bytes that a loaded module
 keeps, as a multiple of its own: three of the examples, and those that are named.
 """
+
+from __future__ import annotations
+
 import subprocess
 import sys
 import tempfile
 from pathlib import Path
+from typing import Sequence
 
 HERE = Path(__file__).resolve().parent
 sys.path.insert(0, str(HERE.parent / "cost"))
@@ -27,22 +31,22 @@ EXAMPLES = [common.EXAMPLES / f"{name}.wasm" for name in ("crc32", "sha256", "di
 ENDLESS = 100_000_000
 
 
-def host(folder, prefix, name):
+def host(folder: str, prefix: str, name: str) -> str:
     """A host of the library: a file of bench/embed."""
     flags = ["-O2", f"-I{prefix}/include", "-o", f"{folder}/{name}"]
     subprocess.run(["cc", *flags, HERE / f"{name}.c", f"{prefix}/lib/libwasmloop.a"], check=True)
     return f"{folder}/{name}"
 
 
-def rounds(count):
+def rounds(count: int) -> str:
     return str(max(TURNS // max(count, 1_000), 20))
 
 
-def numbers(command):
+def numbers(command: common.Command) -> list[float]:
     return [float(word) for word in common.words(command)]
 
 
-def loops(folder, prefix):
+def loops(folder: str, prefix: str) -> None:
     """The table of loops."""
     many, many_uv = host(folder, prefix, "many"), common.compiled(f"{folder}/many_uv", HERE / "many_uv.c", "-luv")
     guest = common.guest("guest.c", f"{folder}/idle.wasm", SCENE="IDLE", N=ENDLESS, K=1)
@@ -67,7 +71,7 @@ def loops(folder, prefix):
     print(f"{MANY} loops of a guest of one page: {resident:.1f} KiB resident, {space:.0f} KiB space, {turn:.0f} ns, of one {turn / ours[0][3]:.2f}")
 
 
-def modules(folder, prefix, files):
+def modules(folder: str, prefix: str, files: Sequence[common.StrPath]) -> None:
     """What loaded modules keep."""
     kept = host(folder, prefix, "kept")
     for file in files:
@@ -75,7 +79,7 @@ def modules(folder, prefix, files):
         print(f"{Path(file).name}: {size} bytes, loaded {each:.0f}, {each / size:.1f} times as many")
 
 
-def main(prefix, *files):
+def main(prefix: str, *files: str) -> None:
     common.alone()
     with tempfile.TemporaryDirectory() as folder:
         loops(folder, prefix)

@@ -8,27 +8,32 @@ again and again, the other restarts a timer. Each is run with few and with many 
 program's start is no part of it. User time, processor time and wall time are printed, since `serve` has two threads. The last line is the
 processor time of a Python process that loads the library, beside one that does not.
 """
+
+from __future__ import annotations
+
 import os
 import resource
 import subprocess
 import sys
 import time
 from pathlib import Path
+from typing import Callable, Mapping, Sequence, Union
 
 HERE = Path(__file__).resolve().parent
 TIMES = 7
 FEW, MANY = 1_000, 20_000
+Command = Sequence[Union[str, Path]]
 
 
-def spent():
+def spent() -> tuple[float, float, float]:
     """User time and processor time of all commands so far, and wall time, in seconds."""
     use = resource.getrusage(resource.RUSAGE_CHILDREN)
     return use.ru_utime, use.ru_utime + use.ru_stime, time.monotonic()
 
 
-def least(words, env=None):
+def least(words: Command, env: Mapping[str, str] | None = None) -> tuple[list[float], bytes]:
     """The least times of a command, and what it prints."""
-    took = []
+    took: list[list[float]] = []
     for _ in range(TIMES):
         before = spent()
         ran = subprocess.run(words, capture_output=True, env=env, check=False)
@@ -38,7 +43,7 @@ def least(words, env=None):
     return [min(it) for it in zip(*took)], ran.stdout
 
 
-def guest(folder, name, rounds):
+def guest(folder: Path, name: str, rounds: int) -> Path:
     """A guest of bench/embed, built with so many rounds."""
     made = folder / f"{name}_{rounds}.wasm"
     words = ["--target=wasm32", "-mcpu=mvp", "-O2", "-nostdlib", f"-DROUNDS={rounds}", f"-I{HERE.parents[1]}/examples"]
@@ -47,15 +52,15 @@ def guest(folder, name, rounds):
     return made
 
 
-def round_of(make):
+def round_of(make: Callable[[int], Command]) -> tuple[list[float], bytes]:
     """The times of a round in seconds, and what is printed of the many rounds."""
     few, _ = least(make(FEW))
     many, out = least(make(MANY))
     return [(it - of_few) / (MANY - FEW) for it, of_few in zip(many, few)], out
 
 
-def main(program, folder):
-    folder = Path(folder).resolve()
+def main(program: str, prefix: str) -> None:
+    folder = Path(prefix).resolve()
     host = folder / "bench_host"
     subprocess.run(["cc", "-O2", f"-I{folder}/include", "-o", host, HERE / "host.c", folder / "lib" / "libwasmloop.a"], check=True)
     for name, what in (("works", "a work request"), ("ticks", "a callback")):

@@ -8,15 +8,22 @@ time of one unit in nanoseconds, and as a multiple of the first row's, a tight l
 one with twice the other's fuel, divided by that of their fuel: what a process costs to start, and a module to load, is
 in neither. Each is the minimum of five runs; the fuel is raised until a run takes long enough to be measured.
 """
+
+from __future__ import annotations
+
 import json
 import resource
 import subprocess
 import sys
 import tempfile
+from pathlib import Path
+
+sys.path.insert(0, str(Path(__file__).resolve().parents[2] / "trials" / "spec"))
+from wasm import name as sized, s as signed, u as number, vec as vector  # noqa: E402
 
 I32, I64 = 0x7F, 0x7E
 DROP, LOOP, BR0, END = b"\x1a", b"\x03\x40", b"\x0c\x00", b"\x0b"
-CALLS = {
+CALLS: dict[str, tuple[list[int], list[int]]] = {
     "now": ([], [I64]), "timer_init": ([], [I32]), "timer_start": ([I32, I32, I64, I64], [I32]),
     "timer_again": ([I32], [I32]), "async_init": ([I32], [I32]), "async_send": ([I32], [I32]),
     "is_active": ([I32], [I32]), "queue_work": ([I32, I32, I32], [I32]), "cancel": ([I32], [I32]),
@@ -24,49 +31,32 @@ CALLS = {
 }
 
 
-def number(n):
-    """LEB128, unsigned."""
-    return bytes([n]) if n < 128 else bytes([n & 127 | 128]) + number(n >> 7)
-
-
-def signed(n):
-    """LEB128, signed."""
-    low = n & 127
-    done = n >> 7 == (-1 if low & 64 else 0)
-    return bytes([low]) if done else bytes([low | 128]) + signed(n >> 7)
-
-
-def vector(items):
-    return number(len(items)) + b"".join(items)
-
-
-def sized(content):
-    return number(len(content)) + content
-
-
-def const(n):
+def const(n: int) -> bytes:
     return b"\x41" + signed(n)
 
 
-def const64(n):
+def const64(n: int) -> bytes:
     return b"\x42" + signed(n)
 
 
 class Module:
     """A module with two pages (or as many as are given), a table of one callback, and the functions of "uv"."""
 
-    def __init__(self, pages=2):
-        self.types, self.functions, self.exports, self.pages = [], [], [], pages
+    def __init__(self, pages: int = 2) -> None:
+        self.types: list[bytes] = []
+        self.functions: list[tuple[int, bytes]] = []
+        self.exports: list[bytes] = []
+        self.pages = pages
         self.imports = [sized(b"uv") + sized(n.encode()) + b"\x00" + number(self.type(*t)) for n, t in CALLS.items()]
         self.callback = self.function([I32], [], [], b"")
 
-    def type(self, params, results):
+    def type(self, params: list[int], results: list[int]) -> int:
         spelled = b"\x60" + vector([bytes([p]) for p in params]) + vector([bytes([r]) for r in results])
         if spelled not in self.types:
             self.types.append(spelled)
         return self.types.index(spelled)
 
-    def function(self, params, results, local_groups, body, export=None):
+    def function(self, params: list[int], results: list[int], local_groups: list[tuple[int, int]], body: bytes, export: str | None = None) -> int:
         groups = vector([number(n) + bytes([t]) for n, t in local_groups])
         self.functions.append((self.type(params, results), sized(groups + body + END)))
         index = len(self.imports) + len(self.functions) - 1
@@ -74,7 +64,7 @@ class Module:
             self.exports.append(sized(export.encode()) + b"\x00" + number(index))
         return index
 
-    def bytes(self):
+    def encoded(self) -> bytes:
         sections = {
             1: vector(self.types), 2: vector(self.imports), 3: vector([number(t) for t, _ in self.functions]),
             4: b"\x01\x70\x00\x01", 5: b"\x01\x00" + number(self.pages), 6: b"\x01\x7f\x01\x41\x00\x0b",
@@ -84,25 +74,25 @@ class Module:
         return b"\0asm\1\0\0\0" + b"".join(bytes([i]) + sized(s) for i, s in sections.items())
 
 
-def call(name):
+def call(name: str) -> bytes:
     return b"\x10" + number(list(CALLS).index(name))
 
 
-def plain(body, times=100, before=b""):
+def plain(body: bytes, times: int = 100, before: bytes = b"") -> Module:
     """uv_main with eight locals of each type, and a loop of so many bodies."""
     module = Module()
     module.function([], [], [(8, I32), (8, I64)], before + LOOP + body * times + BR0 + END, "uv_main")
     return module
 
 
-def calling(local_count):
+def calling(local_count: int) -> Module:
     module = Module()
     callee = module.function([], [], [(local_count, I64)] if local_count else [], b"")
     module.function([], [], [], LOOP + (b"\x10" + number(callee)) * 100 + BR0 + END, "uv_main")
     return module
 
 
-def carrying(count):
+def carrying(count: int) -> Module:
     """A loop with so many parameters, that branches to itself."""
     module = Module()
     kind = signed(module.type([I32] * count, []))
@@ -110,7 +100,7 @@ def carrying(count):
     return module
 
 
-def crowded():
+def crowded() -> Module:
     """A queue_work that is refused, in a module of as many exports as there may be."""
     module = Module()
     work = module.function([I32], [I32], [], const(0))
@@ -123,7 +113,7 @@ def crowded():
     return module
 
 
-def working(bodies):
+def working(bodies: list[bytes]) -> Module:
     """uv_work with a loop of these bodies, in 64 pages; uv_main asks for it with 65,536 bytes."""
     module = Module(64)
     module.function([], [], [], const(0) * 2 + const(65536) + call("queue_work") + DROP, "uv_main")
@@ -175,7 +165,7 @@ LEAST = 0.15
 SUITS = {False: 10**9, True: 10**7}
 
 
-def seconds(program, script, work, fuel):
+def seconds(program: str, script: dict[str, object], work: bool, fuel: int) -> float:
     """The least processor time of five runs with so much fuel."""
     script["loops"] = [{"module": 0, "fuel": fuel, "work_fuel": fuel, "depth": 128}]
     script["steps"] = [["loop", 0]] + [[s, 0] for s in ("post", "take", "start", "finish")] * work
@@ -193,10 +183,10 @@ def seconds(program, script, work, fuel):
     return min(times)
 
 
-def unit(program, label, module):
+def unit(program: str, label: str, module: Module) -> float:
     """The nanoseconds of a unit of fuel."""
     work = label.startswith("work")
-    script = {"modules": [module.bytes().hex()], "workers": 1}
+    script = {"modules": [module.encoded().hex()], "workers": 1}
     fuel = 100_000
     once = seconds(program, script, work, fuel)
     while once < LEAST and fuel < SUITS[work]:
@@ -205,7 +195,7 @@ def unit(program, label, module):
     return (seconds(program, script, work, 2 * fuel) - once) / fuel * 1e9
 
 
-def main():
+def main() -> None:
     if len(sys.argv) != 2:
         sys.exit(__doc__)
     tight = None

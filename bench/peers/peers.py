@@ -1,14 +1,23 @@
 """The engines that the benches compare."""
+
+from __future__ import annotations
+
 import functools
 import os
-import pathlib
 import subprocess
 import tempfile
+from pathlib import Path
+from typing import Callable, List, Sequence, Union
 
-HERE = pathlib.Path(__file__).resolve().parent
+StrPath = Union[str, Path]
+Command = Sequence[StrPath]
+# from words to the words that it prints
+Engine = Callable[..., List[str]]
+PROCESSORS = range(os.cpu_count() or 1)
+HERE = Path(__file__).resolve().parent
 
 
-def before_all_others():
+def before_all_others() -> None:
     """This process and what it starts run before all others."""
     try:
         os.sched_setscheduler(0, os.SCHED_FIFO, os.sched_param(80))
@@ -16,25 +25,25 @@ def before_all_others():
         print("no real-time class: times include what else runs")
 
 
-def ours(library):
+def ours(library: Path) -> Command:
     """The program over this library, built into a folder that stays as long as the process."""
     archive = library / "libwasmloop.a" if library.is_dir() else library
-    made = pathlib.Path(tempfile.mkdtemp()) / "ours"
+    made = Path(tempfile.mkdtemp()) / "ours"
     subprocess.run(["cc", "-O2", f"-I{HERE.parents[1]}/capi/include", "-o", made, HERE / "ours.c", archive, "-lpthread"], check=True)
     return [made]
 
 
-def of_root(root, program, *mode):
+def of_root(root: Path, program: str, *mode: str) -> Command:
     """A program that was built in another root, run by that root's loader."""
     libraries = root / "usr/lib/x86_64-linux-gnu"
     return [libraries / "ld-linux-x86-64.so.2", "--library-path", libraries, root / "peers" / program, *mode]
 
 
-def said(command, *words):
+def said(command: Command, *words: StrPath) -> list[str]:
     return subprocess.run([*command, *words], stdout=subprocess.PIPE, text=True, check=True).stdout.split()
 
 
-def others(folder):
+def others(folder: Path) -> dict[str, Command]:
     """The command of each engine that fetch.sh has built in the folder."""
     found = {}
     if (folder / "peers/peer-wasmi").exists():
@@ -45,7 +54,7 @@ def others(folder):
     return found
 
 
-def engines(library, folder):
+def engines(library: StrPath, folder: Path) -> dict[str, Engine]:
     """This library first, then the others, each as a function from words to the words that it prints."""
-    commands = {"ours": ours(pathlib.Path(library)), **others(folder)}
+    commands = {"ours": ours(Path(library)), **others(folder)}
     return {name: functools.partial(said, command) for name, command in commands.items()}

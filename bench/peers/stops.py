@@ -13,17 +13,23 @@ LIBRARY is libwasmloop.a or a folder with it, PEERS the folder that fetch.sh mak
 
 The engines take turns on one processor under a real-time class, and the fastest of all calls counts. Deadlines have all processors.
 """
+
+from __future__ import annotations
+
 import functools
 import math
 import os
-import pathlib
 import subprocess
 import sys
 import tempfile
+from pathlib import Path
+from statistics import geometric_mean
+from typing import Mapping
 
 import peers
+from peers import PROCESSORS, Engine, StrPath
 
-HERE = pathlib.Path(__file__).resolve().parent
+HERE = Path(__file__).resolve().parent
 sys.path.append(str(HERE.parent / "kernels"))
 import run as kernels  # noqa: E402
 
@@ -32,7 +38,7 @@ PAGES = 1, 64
 HEADS = ["fuel costs", "stores of 100", "late: mean; worst, us", *(f"instance, {pages * 64} KiB, ns" for pages in PAGES), "host call, ns"]
 
 
-def guest(folder, pages):
+def guest(folder: Path, pages: int) -> Path:
     """The module of guest.c with so many pages of memory."""
     made, module = folder / "guest.o", folder / f"{pages}.wasm"
     subprocess.run([*kernels.COMPILE, *kernels.WASM, f"-I{HERE.parents[1]}/examples", "-c", "-o", made, HERE / "guest.c"], check=True)
@@ -41,53 +47,53 @@ def guest(folder, pages):
     return module
 
 
-def fastest(engines, *words):
+def fastest(engines: Mapping[str, Engine], *words: StrPath) -> dict[str, float]:
     """The nanoseconds of each engine's fastest call."""
     least = dict.fromkeys(engines, math.inf)
     for turn in range(TURNS):
-        os.sched_setaffinity(0, {turn % os.cpu_count()})
+        os.sched_setaffinity(0, {turn % len(PROCESSORS)})
         for name, engine in engines.items():
             least[name] = min(least[name], int(engine(*words)[-1]))
     return least
 
 
-def costs_of_fuel(engines, folder):
+def costs_of_fuel(engines: Mapping[str, Engine], folder: Path) -> dict[str, float]:
     """By how much fuel makes each engine slower, of those that can do without."""
     both = {name: it for name, it in engines.items() if f"{name}, fuel" in engines or name.endswith(", fuel")}
-    ratios = {name: [] for name in both if name.endswith(", fuel")}
+    ratios: dict[str, list[float]] = {name: [] for name in both if name.endswith(", fuel")}
     for kernel in sorted(path.stem for path in kernels.FOLDER.glob("*.c") if path.stem != "native"):
         least = fastest(both, "call", kernels.compiled(kernel, folder)[0], "1")
         for name, of in ratios.items():
             of.append(least[name] / least[name.removesuffix(", fuel")])
-    return {name: math.exp(sum(map(math.log, of)) / len(of)) for name, of in ratios.items()}
+    return {name: geometric_mean(of) for name, of in ratios.items()}
 
 
-def stores(engine, module):
+def stores(engine: Engine, module: Path) -> str:
     """How many stores are done with one unit of fuel too few."""
     total = int(engine("fuel", module, "1000000")[1])
     return engine("fuel", module, str(total - 1))[0]
 
 
-def late(engine, module):
-    os.sched_setaffinity(0, range(os.cpu_count()))
+def late(engine: Engine, module: Path) -> str:
+    os.sched_setaffinity(0, PROCESSORS)
     mean, worst = (int(it) / 1000 for it in engine("late", module, STOPPED, SLICE))
     return f"{mean:.0f}; {worst:.0f}"
 
 
-def host_calls(engines, module):
+def host_calls(engines: Mapping[str, Engine], module: Path) -> dict[str, float]:
     """The nanoseconds of a call of the host: guest.c's work with it, less that without."""
     with_calls, without = (fastest(engines, "work", module, str(2 * HOST_CALLS + odd), os.devnull, "3") for odd in (1, 0))
     return {name: (with_calls[name] - without[name]) / HOST_CALLS for name in engines}
 
 
-def main(library, folder):
+def main(library: str, folder: str) -> None:
     peers.before_all_others()
-    engines = peers.engines(library, pathlib.Path(folder))
+    engines = peers.engines(library, Path(folder))
     if "WasmEdge" in engines:
-        engines["WasmEdge, fuel"] = functools.partial(peers.said, peers.of_root(pathlib.Path(folder), "peer-wasmedge", "fuel"))
+        engines["WasmEdge, fuel"] = functools.partial(peers.said, peers.of_root(Path(folder), "peer-wasmedge", "fuel"))
     with tempfile.TemporaryDirectory() as room:
-        small, large = (guest(pathlib.Path(room), pages) for pages in PAGES)
-        costs = costs_of_fuel(engines, pathlib.Path(room))
+        small, large = (guest(Path(room), pages) for pages in PAGES)
+        costs = costs_of_fuel(engines, Path(room))
         instances = [fastest(engines, "work", module, "0", os.devnull, str(CALLS)) for module in (small, large)]
         calls = host_calls(engines, small)
         print("| | " + " | ".join(HEADS) + " |\n" + "|---" * (len(HEADS) + 1) + "|")
@@ -102,4 +108,4 @@ def main(library, folder):
 if __name__ == "__main__":
     if len(sys.argv) != 3:
         sys.exit(__doc__)
-    sys.exit(main(*sys.argv[1:]))
+    main(*sys.argv[1:])

@@ -5,6 +5,8 @@ usage: PYTHONPATH=capi/python WASMLOOP_LIBRARY=LIBRARY ask_test.py OUT [SEED]
 Needs clang, wasm-ld, cc and wasm-opt; a guest in Rust is left out where there is no rustc for wasm32, and said.
 """
 
+from __future__ import annotations
+
 import asyncio
 import ctypes
 import random
@@ -13,9 +15,10 @@ import struct
 import subprocess
 import sys
 from pathlib import Path
+from typing import Any, Callable, Dict, List, Optional, Tuple
 
 import expecting
-from expecting import run, same
+from expecting import number, run, same
 from wasmloop import Error, Module, Stopped, _header, ask, bind, explain, freeze, wasm
 
 OUT, SEED = Path(sys.argv[1]), int(sys.argv[2]) if sys.argv[2:] else 1
@@ -24,11 +27,13 @@ TOP = HERE.parent.parent
 ASK = TOP / "examples" / "kit" / "ask"
 PROGRAMS, WAITING, MOST = 1000, 40, 1.02
 AMPLE = 1 << 40
+# a function and its arguments
+Call = Tuple[str, List[int]]
 RUST = ["--edition", "2021", "--target", "wasm32-unknown-unknown", "--crate-type", "cdylib", "-O", "-C", "target-cpu=mvp", "-C", "linker=wasm-ld",
         "-C", "panic=abort", "-C", "strip=debuginfo", "-C", "link-args=--demangle --stack-first -zstack-size=16384"]
 
 
-def linked(*sources):
+def linked(*sources: Path) -> bytes:
     made = []
     for source in sources:
         made.append(OUT / f"{source.stem}.o")
@@ -37,7 +42,7 @@ def linked(*sources):
     return (OUT / "linked.wasm").read_bytes()
 
 
-def plugin(*sources, small=False):
+def plugin(*sources: Path, small: bool = False) -> bytes:
     """The plug-in of these files of C."""
     made = ask.asyncified(linked(*sources), small=small)
     same(f"whether the host runs {sources[0].name}", explain(made), None)
@@ -47,7 +52,7 @@ def plugin(*sources, small=False):
 class Native:
     """The native build of asks.c: what a program asks, in order, and returns."""
 
-    def __init__(self):
+    def __init__(self) -> None:
         run("cc", "-O1", "-shared", "-fPIC", "-I", ASK, "-o", OUT / "asks.so", HERE / "ask" / "asks.c")
         self.code = ctypes.CDLL(str(OUT / "asks.so"))
         self.code.program_at.restype = ctypes.c_void_p
@@ -56,20 +61,21 @@ class Native:
         self.by = kind(self.ask)
         ctypes.c_void_p.in_dll(self.code, "ask_by").value = ctypes.cast(self.by, ctypes.c_void_p).value
 
-    def ask(self, question, length, answer, room):
+    def ask(self, question: int, length: int, answer: int, room: int) -> int:
         self.questions.append(ctypes.string_at(question, length))
         told = answer_of(self.seed, len(self.questions))
         held = (told or b"")[:room]
         ctypes.memmove(answer, held, len(held))
         return ask.NO_ANSWER if told is None else len(told)
 
-    def run(self, program, seed):
-        self.seed, self.questions = seed, []
+    def run(self, program: bytes, seed: int) -> Tuple[int, List[bytes]]:
+        self.seed = seed
+        self.questions: List[bytes] = []
         ctypes.memmove(self.code.program_at(), program, len(program))
-        return self.code.run(len(program), ctypes.c_int64(seed)), self.questions
+        return int(self.code.run(len(program), ctypes.c_int64(seed))), self.questions
 
 
-def answer_of(seed, number):
+def answer_of(seed: int, number: int) -> Optional[bytes]:
     """The answer to the question of this number: some are longer than there is room, some are none."""
     rng = random.Random(seed << 16 | number)
     return None if rng.random() < 0.1 else bytes(rng.randrange(256) for _ in range(rng.randrange(33)))
@@ -78,17 +84,19 @@ def answer_of(seed, number):
 class Running:
     """A call of the guest that waits for an answer, or is over."""
 
-    def __init__(self, module, program, seed, fuel):
-        self.seed, self.words, self.fuel, self.used, self.questions = seed, (len(program), seed), fuel, 0, []
-        self.ended, self.result = None, None
-        self.plugin = ask.Plugin(module, None)
-        at = self.plugin.instance.call("program_at")
+    def __init__(self, module: Module, program: bytes, seed: int, fuel: int) -> None:
+        self.seed, self.words, self.fuel, self.used = seed, (len(program), seed), fuel, 0
+        self.questions: List[bytes] = []
+        self.ended: Optional[str] = None
+        self.result: object = None
+        self.plugin = ask.Plugin(module, price)
+        at = number(self.plugin.instance, "program_at")
         self.plugin.instance.memory[at:at + len(program)] = program
         same("an answer before a question", self.plugin.instance.call("ask_answer", 0), -1)
         self.steps = self.plugin.steps("run", *self.words, fuel=fuel, depth=128)
         self.move(None)
 
-    def move(self, answer):
+    def move(self, answer: Optional[bytes]) -> None:
         try:
             waits, it = ask.moved(self.steps, answer)
         except Stopped as why:
@@ -99,35 +107,36 @@ class Running:
         else:
             self.ended, self.result, self.used = "return", it, self.used + self.plugin.used
 
-    def answer(self):
+    def answer(self) -> None:
         self.move(answer_of(self.seed, len(self.questions)))
 
-    def disturb(self):
+    def disturb(self) -> None:
         """What a host may do meanwhile: other functions run, and can't ask."""
         same("a question while one waits", self.plugin.instance.call("other", 5), -1000)
 
-    def put_away(self, opened, reader):
+    def put_away(self, reader: wasm.Module) -> None:
         """Goes on in an instance of another module: the one that begins where this one stands."""
         made, _ = freeze.left_by(reader, self.plugin.instance)
         self.used += self.plugin.used
         self.plugin.close()
-        self.plugin = ask.Plugin(Module(freeze.with_globals(wasm.Module(made))), None)
+        self.plugin = ask.Plugin(Module(freeze.with_globals(wasm.Module(made))), price)
         self.steps = self.plugin.steps("run", *self.words, fuel=self.fuel - self.used, depth=128, resumed=True)
         same("the question that waits", ask.moved(self.steps, None), (True, self.questions[-1]))
 
 
-def fuzz():
+def fuzz() -> None:
     """Both forms of plug-ins."""
     native = Native()
     for small in (False, True):
         crowds(native, random.Random(SEED + small), plugin(ASK / "ask.c", HERE / "ask" / "asks.c", small=small), "small, " if small else "")
 
 
-def crowds(native, rng, data, form):
+def crowds(native: Native, rng: random.Random, data: bytes, form: str) -> None:
     """Programs in a crowd of instances, answered in any order: each question once, in its order, none lost; and the result of the native build."""
     reader = wasm.Module(data)
     module = Module(freeze.with_globals(reader))
-    crowd, counts = [], {"return": 0, "spent": 0, "questions": 0, "put away": 0}
+    crowd: List[Tuple[Running, Tuple[int, List[bytes]]]] = []
+    counts = {"return": 0, "spent": 0, "questions": 0, "put away": 0}
     begun = 0
     while begun < PROGRAMS or crowd:
         if begun < PROGRAMS and len(crowd) < WAITING:
@@ -146,7 +155,7 @@ def crowds(native, rng, data, form):
             del crowd[place]
         elif rng.random() < 0.02:
             counts["put away"] += 1
-            one.put_away(module, reader)
+            one.put_away(reader)
         elif rng.random() < 0.1:
             one.disturb()
         else:
@@ -155,17 +164,17 @@ def crowds(native, rng, data, form):
           f"as another module, {counts['spent']} ran out of fuel")
 
 
-async def price(question):
+async def price(question: bytes) -> bytes:
     await asyncio.sleep(0)
     number, = struct.unpack("<i", question)
     return struct.pack("<i", number * 7 % 1000)
 
 
-def total(articles):
+def total(articles: int) -> int:
     return sum(it * 7 % 1000 * (it + 1) for it in range(articles))
 
 
-async def crowd_of(module, count):
+async def crowd_of(module: Module, count: int) -> int:
     plugins = [ask.Plugin(module, price) for _ in range(count)]
     told = await asyncio.gather(*(it.call("total", 20) for it in plugins))
     same(f"the results of {count} plug-ins", set(told), {total(20)})
@@ -206,7 +215,7 @@ fn main() -> Result<(), Error> {
 """
 
 
-def host_in_rust():
+def host_in_rust() -> None:
     """A host in Rust on the plug-in in C: all answers, none, and a function that never asks."""
     words = expecting.rustc(OUT)
     if not words:
@@ -218,7 +227,7 @@ def host_in_rust():
     same("the host in Rust", run(OUT / "asks", OUT / "cart.wasm").strip(), f"({total(20)}, 20) (-1, 1) ({total(20)}, 0)")
 
 
-def examples():
+def examples() -> None:
     """The plug-ins of the kit in C and in Rust, by asyncio and by the host in C."""
     run("cc", "-std=c11", "-Wall", "-Wextra", "-Werror", "-g", "-O1", "-fsanitize=address,undefined", "-fno-sanitize-recover", "-I", ASK, "-I",
         TOP / "capi" / "include", "-o", OUT / "host", ASK / "host.c", TOP / "dist" / "libwasmloop.a")
@@ -233,11 +242,11 @@ def examples():
         print(f"questions: 500 plug-ins in {language} waited in one thread, {units / 20:.0f} units a question")
 
 
-def in_rust():
+def in_rust() -> Optional[bytes]:
     """The plug-in in Rust, by a rustc that has the target: Debian's, or the first in PATH."""
     for rustc in ("/usr/bin/rustc", shutil.which("rustc")):
-        words = [rustc, *RUST, "-o", OUT / "rust.wasm", ASK / "cart.rs"]
-        if rustc and Path(rustc).exists() and subprocess.run(words, capture_output=True, check=False).returncode == 0:
+        words = [*RUST, "-o", str(OUT / "rust.wasm"), str(ASK / "cart.rs")]
+        if rustc and Path(rustc).exists() and subprocess.run([rustc, *words], capture_output=True, check=False).returncode == 0:
             return ask.asyncified((OUT / "rust.wasm").read_bytes())
     return None
 
@@ -252,32 +261,36 @@ __attribute__((export_name("run"))) int32_t run(int32_t count) { int32_t it = 1;
 """
 
 
-def units_of(data, *calls):
+def units_of(data: bytes, *calls: Call) -> Tuple[List[object], int]:
     """What the calls return, and the units of the last one."""
     with Module(data).instance() as it:
-        return [it.call(name, *words, fuel=AMPLE) for name, *words in calls], it.used
+        return [it.call(name, *words, fuel=AMPLE) for name, words in calls], it.used
 
 
-def never():
+def never() -> None:
     """A call that never asks has the units of the same guest without Asyncify if it can't ask, and hardly more if it could."""
     none = OUT / "none.c"
     none.write_text('#include "ask.h"\nint32_t ask(const void *question, uint32_t length, void *answer, uint32_t room)\n'
                     "{\n    (void)question, (void)length, (void)answer, (void)room;\n    return ASK_NONE;\n}\n")
     (OUT / "silent.c").write_text(SILENT)
-    know, could = ("know", 512), HERE / "ask" / "never.c"
-    for what, most, source, *calls in (("a guest that names no question, by pointers", 1, OUT / "silent.c", ("run", 1000)),
-                                       ("a function that leads to none", 1, ASK / "cart.c", ("estimate", 1000)),
-                                       ("an interpreter that could ask", MOST, could, ("machine", 1000, 0)),
-                                       ("one that could ask in each loop", MOST, could, know, ("machine", 1000, 1)),
-                                       ("a sort by another function than the one that asks", 1.1, could, know, ("sorted", 0)),
-                                       ("a sort by the function that asks", 1.25, could, know, ("sorted", 1))):
+    know: Call = ("know", [512])
+    could = HERE / "ask" / "never.c"
+    rows: List[Tuple[str, float, Path, List[Call]]] = [
+        ("a guest that names no question, by pointers", 1, OUT / "silent.c", [("run", [1000])]),
+        ("a function that leads to none", 1, ASK / "cart.c", [("estimate", [1000])]),
+        ("an interpreter that could ask", MOST, could, [("machine", [1000, 0])]),
+        ("one that could ask in each loop", MOST, could, [know, ("machine", [1000, 1])]),
+        ("a sort by another function than the one that asks", 1.1, could, [know, ("sorted", [0])]),
+        ("a sort by the function that asks", 1.25, could, [know, ("sorted", [1])]),
+    ]
+    for what, most, source, calls in rows:
         (told, units), (known, own) = units_of(plugin(ASK / "ask.c", source), *calls), units_of(ask.optimized(linked(none, source)), *calls)
         same(f"the results of {what}", told, known)
         same(f"whether {what} has at most {most} times the units: {units} for {own}", units <= most * own, True)
         print(f"questions: {what}: {units:,} units, {own:,} without Asyncify: {units / own:.3f}")
 
 
-def named():
+def named() -> None:
     """Functions that --never names."""
     with_it = linked(ASK / "ask.c", ASK / "cart.c")
     wrong = ask.asyncified(with_it, "total")
@@ -288,18 +301,18 @@ def named():
     same("a function that asks beside one of --never", asyncio.run(other.call("total", 20)), total(20))
 
 
-def typed():
+def typed() -> None:
     """A class that `bind` writes, with methods that are awaited."""
     made = plugin(ASK / "ask.c", HERE / "ask" / "greets.c")
     header = _header.read("greets", "int32_t greet(const char *name, uint32_t name_size, char *into, uint32_t into_room); void *room(uint32_t size);")
-    names = {}
+    names: Dict[str, Any] = {}
     exec(compile(bind.written(header, asks=True), "greets.py", "exec"), names)
 
-    async def greeting(name):
+    async def greeting(name: bytes) -> Optional[bytes]:
         await asyncio.sleep(0)
         return None if name == b"nobody" else b"Good day, "
 
-    async def greet(name, *room):
+    async def greet(name: str, *room: int) -> object:
         with names["Greets"](Module(made), greeting, deadline=60_000) as it:
             told = it.greet(name, *room)
             other = it.greet("another")
@@ -307,9 +320,10 @@ def typed():
             same("a call while a question waits", str(other), "the plug-in stands in the middle of a call of greet")
             return told
 
-    for words, told in ((("Ada",), "Good day, Ada"), (("",), "Good day, "), (("Ada", 11), "greet has 13 bytes for a room of 11"),
-                        (("nobody",), "greet returned -2")):
-        same(f"the greeting of {words}", str(asyncio.run(greet(*words))), told)
+    greetings: List[Tuple[str, List[int], str]] = [
+        ("Ada", [], "Good day, Ada"), ("", [], "Good day, "), ("Ada", [11], "greet has 13 bytes for a room of 11"), ("nobody", [], "greet returned -2")]
+    for name, room, told in greetings:
+        same(f"the greeting of {name!r} {room}", str(asyncio.run(greet(name, *room))), told)
 
 
 LIES = """
@@ -322,14 +336,14 @@ EXPORT(ask_answer) int32_t ask_answer(int32_t length) { (void)length; return 0; 
 """
 
 
-def faults():
+def faults() -> None:
     """What a host is told of plug-ins that lack something, stop, or lie."""
     made = plugin(ASK / "ask.c", ASK / "cart.c")
 
-    async def fails(question):
+    async def fails(question: bytes) -> bytes:
         raise KeyError("no database")
 
-    async def silent(question):
+    async def silent(question: bytes) -> None:
         return None
 
     one = ask.Plugin(Module(made), fails)
@@ -352,14 +366,14 @@ def faults():
     same("the fuel of the whole call", one.used, 700)
 
 
-def raised(call):
+def raised(call: Callable[[], object]) -> str:
     try:
         return f"it returned {call()}"
     except (Error, KeyError) as why:
         return str(why).split("after ")[0] + "after " * ("after " in str(why))
 
 
-def main():
+def main() -> int:
     for tool in ("clang", "wasm-ld", "cc", "wasm-opt"):
         if not shutil.which(tool):
             print(f"left out: questions: there is no {tool}")

@@ -5,6 +5,9 @@ usage: PYTHONPATH=capi/python WASMLOOP_LIBRARY=LIBRARY bind_test.py OUT [SEED]
 Needs clang and wasm-ld; hosts in C and Rust are left out where there is no cc or rustc, and said.
 """
 
+from __future__ import annotations
+
+import functools
 import importlib.util
 import json
 import random
@@ -13,6 +16,7 @@ import sys
 import time
 import zlib
 from pathlib import Path
+from typing import Any, Callable, List, Tuple, Type
 
 import expecting
 from expecting import run, same
@@ -24,7 +28,7 @@ TOP = HERE.parent.parent
 ROUNDS, ORDERS = 300, 500
 
 
-def built(name, source, *flags):
+def built(name: str, source: Path, *flags: str) -> bytes:
     """The plug-in of a file of C; as a page builds it, but for mem.c."""
     objects = [OUT / f"{name}.o", OUT / "mem.o"]
     for file, made in zip((source, TOP / "examples" / "mem.c"), objects):
@@ -33,7 +37,7 @@ def built(name, source, *flags):
     return (OUT / f"{name}.wasm").read_bytes()
 
 
-def bound(name, text):
+def bound(name: str, text: str) -> Any:
     """The class that `bind` writes of a header; the header for C and the module for Rust beside it."""
     header = _header.read(name, text)
     for file, made in ((f"{name}.py", bind.written(header)), (f"{name}_host.h", _bind_c.written(header)), (f"{name}.rs", _bind_rust.written(header))):
@@ -41,26 +45,28 @@ def bound(name, text):
     return loaded(name)
 
 
-def loaded(name):
+def loaded(name: str) -> Any:
     """A module that `bind` wrote."""
     spec = importlib.util.spec_from_file_location(name, OUT / f"{name}.py")
+    assert spec and spec.loader
     module = importlib.util.module_from_spec(spec)
     spec.loader.exec_module(module)
     return module
 
 
-def raised(kind, call):
+def raised(kind: Type[Exception], call: Callable[[], object]) -> str:
     try:
         return f"it returned {call()}"
     except kind as why:
         return str(why)
 
 
-def kinds():
+def kinds() -> None:
     """Each kind of function, with numbers and bytes of any kind, by a static place and by an allocator."""
     text = (HERE / "ask" / "kinds.h").read_text()
     heap = "\n".join(it for it in text.split("\n") if "(room)" not in it)
-    for name, header, flags in (("kinds", text, []), ("heap", heap, ["-DALLOCATOR"])):
+    variants: List[Tuple[str, str, List[str]]] = [("kinds", text, []), ("heap", heap, ["-DALLOCATOR"])]
+    for name, header, flags in variants:
         data, made = built(name, HERE / "ask" / "kinds.c", *flags), bound(name, header)
         with Module(data) as module, getattr(made, name.capitalize())(module, fuel=1 << 40) as plugin:
             rng = random.Random(SEED)
@@ -70,7 +76,7 @@ def kinds():
     print(f"bind: {2 * ROUNDS} rounds of each kind of function, in a static place and by an allocator")
 
 
-def calls_of(rng, plugin, made):
+def calls_of(rng: random.Random, plugin: Any, made: Any) -> None:
     number = rng.randrange(-2**31, 2**31)
     plugin.forget()
     same("add", (plugin.add(number), plugin.add(number)), (number, 2 * number))
@@ -90,7 +96,7 @@ def calls_of(rng, plugin, made):
     same("is_even", plugin.is_even(it.b), it.b % 2 == 0)
 
 
-def faults_of(plugin, made):
+def faults_of(plugin: Any, made: Any) -> None:
     same("version", plugin.version(), "1.2, of more than a few letters, so that it is read in several parts, as long texts are")
     same("an error", raised(bind.Failed, lambda: plugin.middle((5, 0), (4, 0))), "middle returned -1")
     same("an error with bytes", raised(bind.Failed, lambda: plugin.twice(bytes(60001))), "twice returned -7")
@@ -102,7 +108,7 @@ def faults_of(plugin, made):
     same("after all that", plugin.crc(b"abc"), zlib.crc32(b"abc"))
 
 
-def headers():
+def headers() -> None:
     """What is told of a header that isn't as it should be."""
     room = "void *room(uint32_t size);"
     for text, why in (
@@ -118,7 +124,7 @@ def headers():
         ("int f;", "h.h:1: expected a function, or a struct of numbers: int f"),
         ("int32_t f(int32_t x);\nint32_t f(int64_t x);", "h.h:2: f is declared before, with another type: int32_t f(int64_t x)"),
     ):
-        same(text, raised(_tool.Failed, lambda text=text: _header.read("h", text)), why)
+        same(text, raised(_tool.Failed, functools.partial(_header.read, "h", text)), why)
     made = bound("other", "int32_t add(int32_t by); int32_t gone(void);")
     data = (OUT / "kinds.wasm").read_bytes()
     same("another type", raised(Error, lambda: made.Other(Module(data))), "add: expected [32] to [32], found [32] to [64]")
@@ -142,7 +148,7 @@ void *room(uint32_t size) { return size > sizeof space ? 0 : space; }
 """
 
 
-def names():
+def names() -> None:
     """Functions, arguments and fields whose names are words of Python or Rust; one declaration twice; a byte order mark, and bytes of no UTF-8."""
     (OUT / "words.c").write_text(WORDS_C)
     (OUT / "words.h").write_bytes(b"\xef\xbb\xbf" + WORDS_H.encode() + b"// caf\xe9\n")
@@ -178,7 +184,7 @@ const char *endless(void)
 """
 
 
-def lies():
+def lies() -> None:
     """A plug-in that returns what it should not holds no host: each ends as an Error, in a time that goes by the bytes; a trap keeps its backtrace."""
     (OUT / "lies.c").write_text(LIES_C)
     data, made = built("lies", OUT / "lies.c", "-fno-builtin"), bound("lies", LIES_H)
@@ -278,7 +284,7 @@ fn main() -> Result<(), Failure> {
 TOLD = "-7 218 2 352441c2 xyzxyz LOUD 3,15 9,18446744073709551608,0,65531 1"
 
 
-def hosts():
+def hosts() -> None:
     """The same functions from C and from Rust."""
     for name in ("kinds", "heap"):
         for compiler, flags in (("gcc", ["-std=c99"]), ("g++", ["-std=c++20"])):
@@ -297,7 +303,7 @@ def hosts():
     in_rust()
 
 
-def in_rust():
+def in_rust() -> None:
     words = expecting.rustc(OUT)
     if not words:
         print("left out: bind: there is no rustc")
@@ -310,7 +316,7 @@ def in_rust():
     print("bind: hosts in C and Rust get the same")
 
 
-def orders():
+def orders() -> None:
     """JSON in, JSON out."""
     source = TOP / "examples" / "plugins" / "orders.c"
     data, made = built("orders", source), bound("orders", source.with_suffix(".h").read_text())
@@ -319,10 +325,10 @@ def orders():
         same("warnings of a plug-in", module.warnings, [])
         for _ in range(ORDERS):
             items = [{"price": rng.randrange(10**6), "count": rng.randrange(100)} for _ in range(rng.randrange(8))]
-            order = {"items": items, "tax": rng.randrange(101)}
+            percent = rng.randrange(101)
             net = sum(it["price"] * it["count"] for it in items)
-            tax = net * order["tax"] // 100
-            text = json.dumps(order, indent=rng.choice((None, 2)))
+            tax = net * percent // 100
+            text = json.dumps({"items": items, "tax": percent}, indent=rng.choice((None, 2)))
             same(text, json.loads(plugin.sums(text)), {"net": net, "tax": tax, "gross": net + tax})
             cut = rng.randrange(len(text))
             place = -int(raised(bind.Failed, lambda: plugin.sums(text[:cut])).split()[-1])
@@ -333,11 +339,11 @@ def orders():
     print(f"bind: {right} orders in JSON, each with its sums, and as many that are cut short, each with its place")
 
 
-def main():
+def main() -> bool:
     for tool in ("clang", "wasm-ld"):
         if not shutil.which(tool):
             print(f"left out: bind: there is no {tool}")
-            return 0
+            return False
     for part in (kinds, headers, names, lies, hosts, orders):
         part()
     return expecting.wrong != 0

@@ -4,6 +4,8 @@ or py_compile, gcc, g++ and rustc take what is written.
 usage: PYTHONPATH=capi/python WASMLOOP_LIBRARY=LIBRARY bind_words.py OUT [COUNT] [SEED]
 """
 
+from __future__ import annotations
+
 import collections
 import keyword
 import random
@@ -11,6 +13,7 @@ import shutil
 import subprocess
 import sys
 from pathlib import Path
+from typing import Counter, Dict, Iterable, List, Sequence, Set, Tuple
 
 import expecting
 from expecting import TOP, same
@@ -33,7 +36,7 @@ WORDS = sorted({*CPP, *RUST, *keyword.kwlist, *getattr(keyword, "softkwlist", ()
 TYPES = [it for it in _header.NUMBERS if it != "int"]
 
 
-def one(rng, words, used):
+def one(rng: random.Random, words: Sequence[str], used: Set[str]) -> str:
     """A name that this part of the header has not used yet."""
     name = rng.choice(words)
     while name in used:
@@ -42,9 +45,10 @@ def one(rng, words, used):
     return name
 
 
-def args(rng, structs, can_write):
+def args(rng: random.Random, structs: Sequence[str], can_write: bool) -> str:
     """The arguments of a function: numbers, texts, bytes, structs, and at most one that it writes."""
-    found, used = [], set()
+    found: List[str] = []
+    used: Set[str] = set()
     for _ in range(rng.randrange(4)):
         name, kind = one(rng, WORDS, used), rng.choice(["number"] * 3 + ["text", "sized", "bytes"] + ["struct"] * bool(structs))
         used |= {f"{name}_size", f"{name}_room"}
@@ -56,12 +60,14 @@ def args(rng, structs, can_write):
     return ", ".join(found) or "void"
 
 
-def header(rng):
+def header(rng: random.Random) -> str:
     """The text of a header."""
-    names, structs = set(), []
+    names: Set[str] = set()
+    structs: List[str] = []
     lines = [*(f"#include <{it}.h>" for it in ("stdint", "stddef", "stdbool")), "", "#define EXPORT(name) __attribute__((export_name(#name)))"]
     for _ in range(rng.randrange(4)):
-        name, fields = one(rng, WORDS, names), set()
+        name = one(rng, WORDS, names)
+        fields: Set[str] = set()
         structs.append(name)
         lines.append(f"typedef struct {{ {' '.join(f'{rng.choice(TYPES)} {one(rng, WORDS, fields)};' for _ in range(rng.randrange(1, 5)))} }} {name};")
     for _ in range(rng.randrange(1, 6)):
@@ -74,17 +80,17 @@ def header(rng):
     return "\n".join(lines) + "\n"
 
 
-def taken(words, file):
+def taken(words: Iterable[object], file: Path) -> str:
     """What a compiler says of a file, if it does not take it."""
     done = subprocess.run([*map(str, words), str(file)], capture_output=True, text=True, check=False)
     return done.stderr.strip() if done.returncode else ""
 
 
-def compilers():
+def compilers() -> Dict[str, Tuple[str, List[object]]]:
     """For each kind of file its suffix, and what compiles it."""
-    flags = ["-Wall", "-Wextra", "-Werror", "-fsyntax-only", "-I", OUT, "-I", TOP / "capi" / "include"]
+    flags: List[object] = ["-Wall", "-Wextra", "-Werror", "-fsyntax-only", "-I", OUT, "-I", TOP / "capi" / "include"]
     runs = "import sys; exec(compile(open(sys.argv[1]).read(), sys.argv[1], 'exec'), {'__name__': 'h'})"
-    found = {"python": (".py", [sys.executable, "-W", "error", "-c", runs])}
+    found: Dict[str, Tuple[str, List[object]]] = {"python": (".py", [sys.executable, "-W", "error", "-c", runs])}
     for name, file, words in (("gcc", ".c", ["-std=c99"]), ("g++", ".cpp", ["-std=c++20"])):
         if shutil.which(name):
             found[name] = file, [name, *words, *flags]
@@ -93,8 +99,10 @@ def compilers():
     return found
 
 
-def main():
-    rng, told, refused, kinds = random.Random(SEED), [], collections.Counter(), compilers()
+def main() -> bool:
+    rng, kinds = random.Random(SEED), compilers()
+    told: List[str] = []
+    refused: Counter[str] = collections.Counter()
     OUT.mkdir(parents=True, exist_ok=True)
     for number in range(COUNT):
         text, name = header(rng), f"h{number}"

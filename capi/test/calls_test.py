@@ -3,6 +3,8 @@
 usage: calls_test.py EXAMPLES PROGRAM [COUNT]
 """
 
+from __future__ import annotations
+
 import copy
 import io
 import pickle
@@ -13,20 +15,24 @@ import tempfile
 import time
 from concurrent.futures import ThreadPoolExecutor
 from pathlib import Path
+from typing import Callable, Dict, List, Tuple
 
 import wasmloop
+from expecting import of_other_type
 from wasmloop import _abi, bind
 
 EXAMPLES, PROGRAM = Path(sys.argv[1]), sys.argv[2]
 COUNT = int(sys.argv[3]) if len(sys.argv) > 3 else 300
+# what is printed, and what is said
+Answer = Tuple[str, str]
 
 
-def same(got, wanted):
+def same(got: object, wanted: object) -> None:
     if got != wanted:
         sys.exit(f"{got!r} is not {wanted!r}")
 
 
-def refused(make, status):
+def refused(make: Callable[[], object], status: int) -> wasmloop.Error:
     try:
         make()
     except wasmloop.Error as error:
@@ -35,12 +41,12 @@ def refused(make, status):
     sys.exit(f"nothing was refused with {status}")
 
 
-def fault_line(fault):
+def fault_line(fault: wasmloop.Fault) -> str:
     stage = ["", "decode", "validate", "link"][fault.stage]
     return f"{stage} {fault.code} {_abi._lib.wasmloop_fault_name(fault.stage, fault.code).decode()}\n"
 
 
-def by_library(data, op, word):
+def by_library(data: bytes, op: int, word: bytes) -> Answer:
     """What `wasmloop work` prints, by the library."""
     try:
         module = wasmloop.Module(data)
@@ -55,7 +61,7 @@ def by_library(data, op, word):
     return (f"trap {reply.number}\n" if reply.outcome == "trap" else f"{reply.outcome}\n"), ""
 
 
-def by_program(file, data, op, word):
+def by_program(file: Path, data: bytes, op: int, word: bytes) -> Answer:
     file.write_bytes(data)
     ran = subprocess.run([PROGRAM, "work", file, str(op), word.hex()], capture_output=True, check=False)
     if ran.returncode == 2:
@@ -64,15 +70,16 @@ def by_program(file, data, op, word):
     return ran.stdout.decode(), ran.stderr.decode() if ran.returncode == 3 else ""
 
 
-def changed(data, rng):
+def changed(data: bytes, rng: random.Random) -> bytes:
     data = bytearray(data)
     for _ in range(rng.choice([0, 1, 1, 2, 4])):
         data[rng.randrange(len(data))] = rng.randrange(256)
     return bytes(data)
 
 
-def compare(count):
-    rng, answers = random.Random(1), {}
+def compare(count: int) -> Dict[str, int]:
+    rng = random.Random(1)
+    answers: Dict[str, int] = {}
     modules = [it.read_bytes() for it in sorted(EXAMPLES.glob("*.wasm"))]
     asked = [(changed(rng.choice(modules), rng), rng.randrange(4), rng.randbytes(rng.choice([0, 3, 64]))) for _ in range(count)]
     with tempfile.TemporaryDirectory() as folder, ThreadPoolExecutor(2) as pool:
@@ -84,7 +91,7 @@ def compare(count):
     return answers
 
 
-def calls():
+def calls() -> None:
     same(wasmloop.version(), subprocess.run([PROGRAM, "--version"], capture_output=True, text=True, check=True).stdout.split()[1])
     data = (EXAMPLES / "crc32.wasm").read_bytes()
     refused(lambda: wasmloop.Module(b"no module"), wasmloop.REFUSED)
@@ -101,7 +108,7 @@ def calls():
     same((job.reply().outcome, job.reply().used, len(job.stop())), ("spent", 3, 1))
     (site,), (place,) = job.stop(), job.stop_places()
     same((place.function, place.instruction), (site[0] + module.shape().imports, site[1]))
-    told = job.stop_told(data)
+    told = job.stop_told(data) or ""
     same((told.startswith(f"in function {place.function}"), f"instruction {site[1]} (" in told, told.endswith(f" at byte {place.byte}")), (True, True, True))
     refused(lambda: job.stop_told(data[:-1]), wasmloop.REFUSED)
     job = module.job(0, b"abc").run()
@@ -118,10 +125,10 @@ def calls():
             same((len(loop.memory), loop.memory[:0], loop.stop_places()), (len(instance.memory), b"", []))
         refused(lambda: loop.value("nothing"), wasmloop.NONE)
         with wasmloop.Loop(asking, number=1) as other:
-            job = loop.next_job()
-            same((other.start(job), loop.start(job), loop.start(job)), (False, True, False))
+            asked = loop.next_job() or sys.exit("no job waits")
+            same((other.start(asked), loop.start(asked), loop.start(asked)), (False, True, False))
         with wasmloop.Loop(asking) as other:
-            same(other.accept(job.run()), False)
+            same(other.accept(asked.run()), False)
         for wrong in (lambda: loop.send(16), lambda: loop.clock(-1), lambda: loop.cancel(2**32), lambda: loop.turn(0)):
             refused(wrong, wasmloop.RANGE)
         turned = loop.turn()
@@ -133,7 +140,7 @@ def calls():
     loops_in_slices((EXAMPLES / "digest.wasm").read_bytes())
 
 
-def calls_with_bytes(data):
+def calls_with_bytes(data: bytes) -> None:
     """uv_work of a kept instance, with bytes, is the job."""
     with wasmloop.Module(data) as module, module.instance() as it:
         same(it.reply, b"")
@@ -143,13 +150,13 @@ def calls_with_bytes(data):
         refused(lambda: it.call_bytes("uv_work", bytes(65_537), 0), wasmloop.RANGE)
         refused(lambda: it.call_bytes("absent", b""), wasmloop.NONE)
         same(len(it.reply), 32)
-        same(refused(lambda: it.call_bytes("uv_work", b"abc", 0, fuel=3), wasmloop.OK).ending, "spent")
+        same(getattr(refused(lambda: it.call_bytes("uv_work", b"abc", 0, fuel=3), wasmloop.OK), "ending", ""), "spent")
         same(it.reply, b"")
 
 
-def loops_in_slices(data):
+def loops_in_slices(data: bytes) -> None:
     """Steps and turns in slices are those without."""
-    def fields(did):
+    def fields(did: wasmloop.Did) -> List[object]:
         return [getattr(did, name) for name, *_ in did._fields_]
 
     with wasmloop.Module(data) as module, wasmloop.Loop(module) as whole, wasmloop.Loop(module) as cut:
@@ -159,14 +166,14 @@ def loops_in_slices(data):
             while not (did := cut.step_for(7)):
                 slices += 1
             same((fields(did), cut.emits(), cut.memory[:]), (fields(wanted), whole.emits(), whole.memory[:]))
-        wanted = whole.turn()
+        turn = whole.turn()
         while not (turned := cut.turn_for(7)):
             same(cut.turned.wait, 0)
-        same((fields(turned.did), turned.wait, turned.callbacks), (fields(wanted.did), wanted.wait, wanted.callbacks))
+        same((fields(turned.did), turned.wait, turned.callbacks), (fields(turn.did), turn.wait, turn.callbacks))
         same(slices > 2, True)
 
 
-def said(call):
+def said(call: Callable[[], object]) -> str:
     """The class of what is raised, and its text."""
     try:
         call()
@@ -177,7 +184,7 @@ def said(call):
     sys.exit("nothing was raised")
 
 
-def wrong_words():
+def wrong_words() -> int:
     """Wrong types, numbers out of range and calls in the wrong state: one sentence each."""
     module = wasmloop.Module((EXAMPLES / "crc32.wasm").read_bytes())
     loop, job, plugin, busy = wasmloop.Loop(module), module.job(0, b"abc"), module.instance(), module.instance()
@@ -188,26 +195,26 @@ def wrong_words():
     same((paused.run_for(1), busy.begin("uv_work", 0).run_for(1)), (False, False))
     same((len(paused.stop()), len(busy.stop()), len(busy.stop_places()), len(busy.memory)), (1, 1, 1, len(plugin.memory)))
     most = 2**64 - 1
-    wanted = [
-        (lambda: module.work(0, "abc"), "TypeError: expected bytes, got str: encode it, as text.encode()"),
-        (lambda: module.work(0, 5), "TypeError: expected bytes, got int"),
-        (lambda: module.work(0, [1, 2]), "TypeError: expected bytes, got list"),
-        (lambda: module.work(0.5), "TypeError: op: expected a whole number, got float"),
+    wanted: List[Tuple[Callable[[], object], str]] = [
+        (lambda: module.work(0, of_other_type("abc")), "TypeError: expected bytes, got str: encode it, as text.encode()"),
+        (lambda: module.work(0, of_other_type(5)), "TypeError: expected bytes, got int"),
+        (lambda: module.work(0, of_other_type([1, 2])), "TypeError: expected bytes, got list"),
+        (lambda: module.work(of_other_type(0.5)), "TypeError: op: expected a whole number, got float"),
         (lambda: module.work(2**32), f"OutOfRange: op {2**32} is out of range: expected -2147483648 to 4294967295"),
         (lambda: module.work(0, fuel=-1), f"OutOfRange: fuel -1 is out of range: expected 0 to {most}"),
         (lambda: module.work(0, fuel=2**64 + 5), f"OutOfRange: fuel {2**64 + 5} is out of range: expected 0 to {most}"),
         (lambda: module.work(0, depth=0), "OutOfRange: depth 0 is out of range: expected 1 to 128"),
         (lambda: module.work(0, bytes(65_537)), "OutOfRange: length 65537 is out of range: expected 0 to 65536"),
-        (lambda: wasmloop.Module("x"), "TypeError: expected the bytes of a module, got str: if it is a path, pass open('x', 'rb').read()"),
+        (lambda: wasmloop.Module(of_other_type("x")), "TypeError: expected the bytes of a module, got str: if it is a path, pass open('x', 'rb').read()"),
         (lambda: wasmloop.Module(b"x"), "Refused: byte 0: the bytes don't begin with 00 61 73 6d: a text file (give the module that wasm-ld wrote)"),
         (lambda: wasmloop.Module(b"\0"), "Refused: byte 1: unexpected end of data (cut short? copy or build it again)"),
         (lambda: wasmloop.Module(b""), "Refused: byte 0: the module is empty (build it again)"),
-        (lambda: wasmloop.Module(io.BytesIO()), "TypeError: expected bytes, got BytesIO: pass its read()"),
+        (lambda: wasmloop.Module(of_other_type(io.BytesIO())), "TypeError: expected bytes, got BytesIO: pass its read()"),
         (lambda: copy.copy(module), "TypeError: cannot copy this module: it has one owner; a module's share() gives a second handle"),
-        (lambda: wasmloop.Loop(3), "TypeError: expected a Module, got int"),
+        (lambda: wasmloop.Loop(of_other_type(3)), "TypeError: expected a Module, got int"),
         (lambda: wasmloop.Loop(module, number=-1), "OutOfRange: number -1 is out of range: expected 0 to 4294967295"),
-        (lambda: loop.accept(None), "TypeError: expected a Job, got NoneType"),
-        (lambda: loop.send("1"), "TypeError: number: expected a whole number, got str"),
+        (lambda: loop.accept(of_other_type(None)), "TypeError: expected a Job, got NoneType"),
+        (lambda: loop.send(of_other_type("1")), "TypeError: number: expected a whole number, got str"),
         (lambda: loop.turn(0), "OutOfRange: most 0 is out of range: expected 1 to 4294967295"),
         (stepping.step, says_paused),
         (stepping.turn, says_paused),
@@ -228,14 +235,14 @@ def wrong_words():
         (lambda: busy.memory.__setitem__(slice(0, 1), b"x"), "Error: a call is in progress"),
         (lambda: loop.memory.__setitem__(slice(0, 1), b"x"), "Error: the memory of a loop can only be read"),
         (lambda: module.instance().call("uv_work", 0, fuel=1), "Stopped: uv_work ran out of fuel, after 1 unit"),
-        (lambda: job.reply_into(b"abc"), "TypeError: expected a writable buffer, got bytes"),
+        (lambda: job.reply_into(of_other_type(b"abc")), "TypeError: expected a writable buffer, got bytes"),
         (lambda: plugin.call("nothing"), "Error: no function is exported as 'nothing': the module exports uv_work"),
         (lambda: plugin.call("uv_work\0", 0), r"Error: no function is exported as 'uv_work\x00'"),
-        (lambda: plugin.call(3), "TypeError: name: expected a str, got int"),
+        (lambda: plugin.call(of_other_type(3)), "TypeError: name: expected a str, got int"),
         (lambda: plugin.call("uv_work"), "TypeError: uv_work takes 1 argument, got 0"),
         (lambda: plugin.call("uv_work", 2**32), f"OutOfRange: argument 1 (i32) {2**32} is out of range: expected -2147483648 to 4294967295"),
         (lambda: plugin.memory[-1:3], "OutOfRange: start -1 is out of range: expected 0 to 131072"),
-        (lambda: plugin.memory[3], "TypeError: read and write memory by slices, as memory[at:at + n]"),
+        (lambda: plugin.memory[of_other_type(3)], "TypeError: read and write memory by slices, as memory[at:at + n]"),
         (lambda: pickle.dumps(module), "TypeError: cannot pickle this module: pickle the bytes of the module, and load them at the other end"),
     ]
     for call, words in wanted:
@@ -257,7 +264,7 @@ SPINS = bytes.fromhex("0061736d01000000 010d 03 600000 6000017f 60017f017f 0304 
                       "0a1e 03 0e 00034023004101 6a24000c000b0b 04 0023000b 08 0003400c000b000b")
 
 
-def late(call, most):
+def late(call: Callable[[], object], most: float) -> wasmloop.Late:
     """The error of a call that is late, within so many seconds."""
     began = time.monotonic()
     try:
@@ -270,7 +277,7 @@ def late(call, most):
     sys.exit("the call is not late")
 
 
-def deadlines():
+def deadlines() -> None:
     """What takes longer than its deadline is late, and leaves what a call with just the fuel used leaves; its instance lives on."""
     with wasmloop.Module(SPINS) as module, module.instance() as it, module.instance() as other:
         same(module.exports, [("spin", "function", ([], [])), ("count", "function", ([], [32])), ("uv_work", "function", ([32], [32])), ("g", "global", None)])
@@ -290,11 +297,11 @@ def deadlines():
         same((module.work(0, fuel=1000, deadline=10_000).outcome, wasmloop.work(SPINS, 0, fuel=2**62, deadline=0).outcome), ("spent", "late"))
         same(said(lambda: it.call("count", deadline=-1)), "OutOfRange: deadline -1 is out of range: expected 0 or more")
         same(said(lambda: it.call("count", deadline=float("nan"))), "OutOfRange: deadline nan is out of range: expected 0 or more")
-        same(said(lambda: module.work(0, deadline="5")), "TypeError: deadline: expected a number of milliseconds, got str")
+        same(said(lambda: module.work(0, deadline=of_other_type("5"))), "TypeError: deadline: expected a number of milliseconds, got str")
         same(said(lambda: it.call("spin", fuel=1, deadline=10_000)), "Stopped: spin ran out of fuel, after 1 unit")
 
 
-def texts():
+def texts() -> None:
     """How runs ended, and what a status says."""
     with wasmloop.Module(SPINS) as module, module.instance() as it, module.job(0, fuel=1_234_567) as job:
         same((job.text(), job.run().text()), ("not over yet, after 0 units", "out of fuel, after 1,234,567 units"))

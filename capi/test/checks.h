@@ -1,4 +1,5 @@
-/* What the tests in C share: IS counts a check, and prints one that doesn't hold with its line; files are read from `folder`. */
+/* What the tests in C share: IS counts a check, and prints one that doesn't hold with its line; at 100 of these the test ends, since a loop that
+ * waits for an answer would print them for ever. Files are read from `folder`. */
 #ifndef CHECKS_H
 #define CHECKS_H
 
@@ -10,12 +11,20 @@ static unsigned checks, failed;
 static const char *folder;
 static uint8_t bytes[1 << 21];
 
+/* The last line of a test, and its status. */
+static int all_hold(void) {
+    if (failed) printf("%u of %u checks fail\n", failed, checks);
+    else printf("all %u checks hold\n", checks);
+    return failed != 0;
+}
+
 #define IS(got, want) is(__LINE__, #got, (long long)(got), (long long)(want))
 static void is(int line, const char *what, long long got, long long want) {
     checks++;
     if (got == want) return;
     failed++;
     printf("line %d: %s is %lld, not %lld\n", line, what, got, want);
+    if (failed >= 100) exit(all_hold());
 }
 
 /* Reads a file of the folder to `bytes`. */
@@ -37,13 +46,6 @@ static wasmloop_handle module_of(const char *name) {
     wasmloop_fault fault;
     IS(wasmloop_load(bytes, read_file(name), &module, &fault), WASMLOOP_OK);
     return module;
-}
-
-/* The last line of a test, and its status. */
-static int all_hold(void) {
-    if (failed) printf("%u of %u checks fail\n", failed, checks);
-    else printf("all %u checks hold\n", checks);
-    return failed != 0;
 }
 
 #endif

@@ -3,25 +3,25 @@
 usage: PYTHONPATH=capi/python WASMLOOP_LIBRARY=LIBRARY desk_cost.py EDGE OUT     (it needs valgrind, and takes a minute)
 """
 
+from __future__ import annotations
+
 import re
 import shutil
 import subprocess
 import sys
+from pathlib import Path
+from typing import List, Tuple, Union
 
 import desk_edge as edge
-import desk_guests as guests
+from ports import free_port                             # (desk_edge has put its folder into the path)
 
 FEW, MANY, KEYS, DEADLINE = 100, 1100, 40, 60000
 MOST_INSTRUCTIONS, MOST_BYTES = 1.05, 300
 
 
-def cost(requests, *words):
+def cost(requests: int, *words: Union[str, Path]) -> Tuple[int, int]:
     """The instructions of a server that answers so many requests, and the bytes of its records."""
-    tenants, records, port = edge.OUT / "tenants", edge.OUT / "edge_records", edge.free_port()
-    for folder in (tenants, records):
-        shutil.rmtree(folder, ignore_errors=True)
-        folder.mkdir()
-    shutil.copy(guests.built(edge.OUT, edge.EXAMPLES, "quota"), tenants)
+    (tenants, records), port = edge.folders(), free_port()
     (tenants / "quota.conf").write_text(f"deadline {DEADLINE}\n")
     command = ["valgrind", "--tool=callgrind", "--callgrind-out-file=/dev/null", edge.EDGE, "-p", str(port), "-w", "2", *words, tenants]
     server = subprocess.Popen(command, stdout=subprocess.DEVNULL, stderr=subprocess.PIPE)
@@ -34,16 +34,17 @@ def cost(requests, *words):
             sys.exit(f"FAILED: {reply.status}: {text.decode()}")
     size = sum(file.stat().st_size for file in records.iterdir())
     server.terminate()
-    return int(re.search(rb"Collected : (\d+)", server.communicate()[1])[1]), size
+    counted = re.search(rb"Collected : (\d+)", server.communicate()[1])
+    return int(counted[1]) if counted else sys.exit("FAILED: valgrind has counted nothing"), size
 
 
-def per_request(*words):
+def per_request(*words: Union[str, Path]) -> List[float]:
     """The same of each request, without what a server takes to start and to end."""
     few, many = cost(FEW, *words), cost(MANY, *words)
     return [(more - less) / (MANY - FEW) for less, more in zip(few, many)]
 
 
-def main():
+def main() -> int:
     if not shutil.which("valgrind"):
         print("left out: what recording costs: valgrind is missing")
         return 0

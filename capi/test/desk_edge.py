@@ -3,6 +3,8 @@
 usage: PYTHONPATH=capi/python WASMLOOP_LIBRARY=LIBRARY desk_edge.py EDGE OUT [FAILURES]     (1 by default)
 """
 
+from __future__ import annotations
+
 import http.client
 import random
 import shutil
@@ -11,6 +13,7 @@ import sys
 import threading
 import time
 from pathlib import Path
+from typing import List, Optional, Tuple
 
 import desk_guests as guests
 from wasmloop import lines, replay
@@ -23,7 +26,17 @@ EDGE, OUT = sys.argv[1], Path(sys.argv[2])
 CLIENTS, REQUESTS, SECONDS, MOST_BYTES = 3, 5000, 30, 300
 
 
-def connection(port):
+def folders() -> Tuple[Path, Path]:
+    """A new folder of tenants, with the guest, and one of records."""
+    tenants, records = OUT / "tenants", OUT / "edge_records"
+    for folder in (tenants, records):
+        shutil.rmtree(folder, ignore_errors=True)
+        folder.mkdir()
+    shutil.copy(guests.built(OUT, EXAMPLES, "quota") or sys.exit("FAILED: clang or wasm-ld is missing"), tenants)
+    return tenants, records
+
+
+def connection(port: int) -> http.client.HTTPConnection:
     """A connection once the server listens."""
     for _ in range(100):
         if connects(port):
@@ -32,7 +45,7 @@ def connection(port):
     sys.exit("FAILED: the edge server does not answer")
 
 
-def client(port, seed, failures):
+def client(port: int, seed: int, failures: List[str]) -> None:
     """Requests with few keys, until one fails."""
     it, rng = connection(port), random.Random(seed)
     for _ in range(REQUESTS):
@@ -45,13 +58,10 @@ def client(port, seed, failures):
             failures.append(text.decode())
 
 
-def recorded(number):
+def recorded(number: int) -> Tuple[Path, Optional[str]]:
     """The record of a loop of a new server, and what the server said when the loop failed; None if it did not."""
-    tenants, records, port, failures = OUT / "tenants", OUT / "edge_records", free_port(), []
-    for folder in (tenants, records):
-        shutil.rmtree(folder, ignore_errors=True)
-        folder.mkdir()
-    shutil.copy(guests.built(OUT, EXAMPLES, "quota"), tenants)
+    (tenants, records), port = folders(), free_port()
+    failures: List[str] = []
     server = subprocess.Popen([EDGE, "-p", str(port), "-w", "2", "-r", records, tenants], stdout=subprocess.DEVNULL)
     threads = [threading.Thread(target=client, args=(port, CLIENTS * number + it, failures)) for it in range(CLIENTS)]
     for it in threads:
@@ -63,7 +73,7 @@ def recorded(number):
     return records / "quota.1", failures[0] if failures else None
 
 
-def again(path, failure, line):
+def again(path: Path, failure: str, line: int) -> Tuple[str, int, float]:
     """What is wrong with the record of a failure, how many requests it has, and the bytes of each."""
     rows = replay.rows_of(str(path))
     run, told = replay.Replay(rows), ""
@@ -76,7 +86,7 @@ def again(path, failure, line):
     return f"{size:.0f} bytes per request" if size > MOST_BYTES else "", asked, size
 
 
-def main(failures=1):
+def main(failures: int = 1) -> int:
     line, found = guests.marked(Path(__file__).with_name("desk") / "quota.c")[0], []
     for number in range(failures):
         path, failure = recorded(number)

@@ -1,14 +1,21 @@
 """The guests of desk_test.py: written, compiled, stripped and lowered. A line with a mark `HERE n` is where operation n fails."""
 
+from __future__ import annotations
+
 import random
 import re
 import shutil
 import subprocess
 import sys
 from pathlib import Path
+from typing import Dict, Iterator, Optional, Sequence, Set, Tuple
 
 TRAPS = 100
-PANIC = set()                                           # lines of a panic handler, which stands for the line that called it
+# what runs, and the module with DWARF
+Modules = Tuple[bytes, bytes]
+# a source, and of each variant its modules
+Guests = Tuple[Path, Dict[str, Modules]]
+PANIC: Set[int] = set()                                 # lines of a panic handler, which stands for the line that called it
 
 C_HEAD = """#include "uv.h"
 #define APART __attribute__((noinline))
@@ -165,7 +172,7 @@ fn FUNCTION(n: i32) -> i32 {
 """.strip().split("\n\n")
 
 
-def marked(source):
+def marked(source: Path) -> Dict[int, int]:
     """Of each operation the line where it was planted to fail."""
     found = {}
     for number, line in enumerate(source.read_text().split("\n"), 1):
@@ -177,7 +184,7 @@ def marked(source):
     return found
 
 
-def functions(kinds, rng, apart, here):
+def functions(kinds: Sequence[str], rng: random.Random, apart: Tuple[str, str], here: str) -> Iterator[Tuple[int, str]]:
     """The functions that fail, half of them inlined into another."""
     for number in range(TRAPS):
         p, q = rng.randrange(8), rng.randrange(12, 40)
@@ -188,7 +195,7 @@ def functions(kinds, rng, apart, here):
         yield number, apart[0 if number % 2 else 1] + text
 
 
-def with_globals():
+def with_globals() -> bytes:
     """A module whose start function adds 10 to a global of 5, whose `init`, of short blocks, makes globals negative and writes memory, and whose work function
     answers the sum of all that and its operation: 16 + op before init, op - 25 after it."""
     from wasmloop.wasm import CODE, EXPORT, FUNCTION, GLOBAL, I32, I64, MEMORY, START, TYPE, Module, constant, sized, text, u, vec
@@ -201,11 +208,11 @@ def with_globals():
         EXPORT: vec([text("init") + b"\0\1", text("uv_work") + b"\0\2"]), CODE: vec([sized(b"\0" + it) for it in (start, init, work)])})
 
 
-def run(*words):
+def run(*words: object) -> None:
     subprocess.run([str(it) for it in words], check=True, capture_output=True)
 
 
-def built(out, examples, name):
+def built(out: Path, examples: Path, name: str) -> Optional[Path]:
     """The guest of capi/test/NAME.c or of this file, compiled with lines, or None without a compiler."""
     if not (shutil.which("clang") and shutil.which("wasm-ld")):
         return None
@@ -217,18 +224,18 @@ def built(out, examples, name):
     return made
 
 
-def compiled(out, examples, source, made, level="-O1"):
+def compiled(out: Path, examples: Path, source: Path, made: Path, level: str = "-O1") -> None:
     for file in (source, examples / "mem.c"):
         run("clang", "--target=wasm32", "-mcpu=mvp", level, "-g", "-ffreestanding", "-I", examples, "-c", "-o", out / f"{file.stem}.o", file)
     run("wasm-ld", "--no-entry", "--export-table", "--stack-first", "-z", "stack-size=16384", "-o", made, out / f"{source.stem}.o", out / "mem.o")
 
 
-def has_fuzzer():
+def has_fuzzer() -> bool:
     found = subprocess.run(["clang", "-print-resource-dir"], stdout=subprocess.PIPE, check=False).stdout.decode().strip()
     return any(Path(found).glob("lib/linux/libclang_rt.fuzzer-x86_64.a"))
 
 
-def soft(out, examples):
+def soft(out: Path, examples: Path) -> Path:
     made = out / "soft.so"
     if not made.is_file():
         run("clang", "--target=wasm32", "-mcpu=mvp", "-O2", "-ffreestanding", "-c", "-o", out / "soft.o", examples / "kit/soft.c")
@@ -236,20 +243,21 @@ def soft(out, examples):
     return made
 
 
-def lowered(out, examples, before, after):
+def lowered(out: Path, examples: Path, before: Path, after: Path) -> bytes:
     run(sys.executable, examples / "kit/lower.py", before, after, "--soft", soft(out, examples))
     return after.read_bytes()
 
 
-def stripped(data):
+def stripped(data: bytes) -> bytes:
     """Without its custom sections: what `wasm-strip` leaves."""
     from wasmloop import wasm
     return wasm.Module(data).written({}, dropped=(0,))
 
 
-def in_c(out, examples):
+def in_c(out: Path, examples: Path) -> Guests:
     """The source, and of each variant what ran and the debug module."""
-    source, rng, variants = out / "traps.c", random.Random(3), {}
+    source, rng = out / "traps.c", random.Random(3)
+    variants: Dict[str, Modules] = {}
     made = "\n\n".join(text for _, text in functions(C_KINDS, rng, ("static APART ", "static inline "), "HERE {}"))
     cases = "\n".join(f"static APART int32_t op_{it}(int32_t n) {{ return fails_{it}(n) + 1; }}" for it in range(TRAPS))
     table = ", ".join(f"op_{it}" for it in range(TRAPS))
@@ -263,7 +271,7 @@ def in_c(out, examples):
     return source, variants
 
 
-def without_floats(out, examples):
+def without_floats(out: Path, examples: Path) -> Iterator[Tuple[str, Modules]]:
     """Guests that need no lowering, as they are, stripped, and linked with shorter numbers. Their source has the name of the others', so that
     the marks of one file serve for all."""
     text = (out / "traps.c").read_text()
@@ -281,7 +289,7 @@ def without_floats(out, examples):
         yield f"linked with shorter numbers, {level}", ((folder / "short.wasm").read_bytes(), data)
 
 
-def rust(source, made, *words):
+def rust(source: Path, made: Path, *words: str) -> bool:
     """Compiles a guest in Rust, by the first rustc that can. Returns False if rustc or its target is missing."""
     for rustc in filter(None, map(shutil.which, ("rustc", "/usr/bin/rustc"))):
         try:
@@ -294,7 +302,7 @@ def rust(source, made, *words):
     return False
 
 
-def in_rust(out, examples):
+def in_rust(out: Path, examples: Path) -> Optional[Guests]:
     """The same in Rust."""
     source, rng = out / "traps.rs", random.Random(4)
     made = "\n\n".join(text for _, text in functions(RUST_KINDS, rng, ("#[inline(never)]\n", "#[inline(always)]\n"), "HERE {}"))
@@ -310,7 +318,7 @@ def in_rust(out, examples):
     return source, {"lowered without floats": (ran, debug), **rust_without_floats(out)}
 
 
-def rust_without_floats(out):
+def rust_without_floats(out: Path) -> Dict[str, Modules]:
     """Guests that need no lowering, as they are and stripped. (The linker keeps the lines of all of `core`, too many for a module, unless the
     compiler sees the whole program.)"""
     folder = out / "whole"

@@ -1,5 +1,7 @@
 """The parts of desk_test.py that measure runs: profiles, callbacks and coverage have the units that the host charges."""
 
+from __future__ import annotations
+
 import collections
 import random
 import re
@@ -7,6 +9,8 @@ import shutil
 import subprocess
 import sys
 from pathlib import Path
+from typing import Counter, Dict, List, Sequence, Tuple
+from unittest import mock
 
 import desk_guests as guests
 import desk_pprof
@@ -17,7 +21,7 @@ from wasmloop import _tool, callbacks, callgrind, counts, cover, lines, pprof, p
 CALLBACKS = 150
 
 
-def units_part():
+def units_part() -> None:
     """The units by counters are the host's, in the sum of paths, of functions and of lines, also of runs that stopped."""
     tried = units = stopped = 0
     names = sorted([*EXAMPLES.glob("*.wasm"), *EXAMPLES.glob("libraries/out/*/*.wasm"), *OUT.glob("*.wasm")])
@@ -44,7 +48,7 @@ def units_part():
     by_line()
 
 
-def each_unit():
+def each_unit() -> None:
     """A run that stops at each of its first units is exact; and a call on an instance leaves its start function out."""
     data = (EXAMPLES / "crc32.wasm").read_bytes()
     host, module = wasmloop.Module(data), wasm.Module(data)
@@ -62,7 +66,7 @@ def each_unit():
         same(f"the units of a request with {fuel}, with those of the start function", (told.why, sum(told.functions.values())), ("", fuel))
 
 
-def deep():
+def deep() -> None:
     """Runs that stop so deep that a job does not keep all calls are exact, wherever they stop."""
     file = guests.built(OUT, EXAMPLES, "parse")
     if not file:
@@ -80,7 +84,7 @@ def deep():
     print(f"units: {tried} runs that stopped deeper than a job's backtrace")
 
 
-def by_line():
+def by_line() -> None:
     """The same with lines and inlined functions, and the same picture each time; calls in callgrind's form; and sampled call paths, in slices
     and by runs with less fuel, which have the same sum."""
     file = guests.built(OUT, EXAMPLES, "parse")
@@ -98,31 +102,29 @@ def by_line():
     check_callgrind(told[0])
     check_pprof(told[0])
     slices(data, host, given)
-    most, tree.MOST_BYTES = tree.MOST_BYTES, len(tree.TreeWriter(module, 0, "PATH").written())
-    light = profile.Profile(module, runs.Request(data, host, 0, given, 64), source, 0)
-    stopped = [sum(profile.Profile(module, runs.Request(data, host, 0, given, 64, fuel), source, 0).lines.values()) for fuel in (150, 200, 250)]
-    tree.MOST_BYTES = most
+    with mock.patch.object(tree, "MOST_BYTES", len(tree.TreeWriter(module, 0, "PATH").written())):
+        light = profile.Profile(module, runs.Request(data, host, 0, given, 64), source, 0)
+        stopped = [sum(profile.Profile(module, runs.Request(data, host, 0, given, 64, fuel), source, 0).lines.values()) for fuel in (150, 200, 250)]
     same("a profile whose counters of blocks do not fit beside the tree", (light.why, light.paths), ("", told[0].paths))
     same("the same of runs that stopped", stopped, [150, 200, 250] if source else [0, 0, 0])
     same("the places where expression calls itself, by atom, which is inlined twice", len({it.site for it in told[0].nodes[3:]}), 2)
-    measured, tree.measured = tree.measured, no_tree
     for kind in (runs.Request, Sliced, NoSlices):
-        sampled = profile.Profile(module, kind(data, host, 0, given, 64), source, 50, THREADS)
+        with mock.patch.object(tree, "measured", side_effect=_tool.Failed("left out by the test")):
+            sampled = profile.Profile(module, kind(data, host, 0, given, 64), source, 50, THREADS)
         same(f"the sum of a sampled profile, {kind.__name__}", sum(sampled.paths.values()), told[0].ran.used)
         same("its functions", sampled.functions, told[0].functions)
         much = {path for path, units in told[0].paths.items() if units > told[0].ran.used / 10}
         same("the main paths of a sampled profile", much - set(sampled.paths), set())
-    tree.measured = measured
     folded = counts.Counted(data)
     answer, found = runs.Request(data, host, 0, given, 64).counted(folded)
-    per_function = {}
+    per_function: Counter[int] = collections.Counter()
     for function, _, count in counts.by_operation(module, folded.rows, found):
-        per_function[function] = per_function.get(function, 0) + count
+        per_function[function] += count
     same("units by operation", {it: n for it, n in per_function.items() if n}, {it: n for it, n in told[0].functions.items() if n})
     same("the answer with counters", answer.answer, host.work(0, given).value)
 
 
-def callbacks_part():
+def callbacks_part() -> None:
     """The units of callbacks of random hosts are the host's, in the sum of functions and of call paths; of those that stopped, too."""
     rng, tried, units, stopped = random.Random(9), 0, 0, 0
     for seed in range(CALLBACKS):
@@ -146,7 +148,7 @@ def callbacks_part():
     print(f"callbacks: {tried} callbacks, {stopped} of which stopped, {units:,} units, each sum as the host's")
 
 
-def many_counters():
+def many_counters() -> None:
     """A callback with more counters than one replay emits, which calls another callback itself."""
     file = guests.built(OUT, EXAMPLES, "busy")
     if not file:
@@ -166,7 +168,7 @@ def many_counters():
     same("whether callbacks of main and of both timers are among them", len(numbers) >= 3, True)
 
 
-def slices(data, host, given):
+def slices(data: bytes, host: wasmloop.Module, given: bytes) -> None:
     """Where the library has the backtrace of a paused call, it is that of a run with just so much fuel."""
     run, each = runs.Request(data, host, 0, given, 64), 7
     run.sampled(1, 1)
@@ -179,14 +181,10 @@ def slices(data, host, given):
     print(f"units: {len(found)} backtraces of a paused call are those of runs with as much fuel")
 
 
-def no_tree(*_):
-    raise _tool.Failed("left out by the test")
-
-
 class Sliced(runs.Request):
     """A library that has the backtrace of a paused call, played by runs with less fuel."""
 
-    def _paths(self, each):
+    def _paths(self, each: int) -> List[List[wasmloop.Site]]:
         whole = self._path_at(counts.ENOUGH)[1]
         return [self._path_at(fuel)[0] for fuel in range(max(each // 2, 1), whole, each)]
 
@@ -194,15 +192,17 @@ class Sliced(runs.Request):
 class NoSlices(runs.Request):
     """A library that has none."""
 
-    def _paths(self, each):
+    def _paths(self, each: int) -> List[List[wasmloop.Site]]:
         raise wasmloop.Error(wasmloop.KIND)
 
 
-def check_callgrind(told):
+def check_callgrind(told: profile.Profile) -> None:
     """The units of all lines are the run's, and those of a function's calls and lines together are what its callers say; and callgrind_annotate
     reads it."""
     text = callgrind.written(told, "guest.wasm").split("\n")
-    alone, within, called, function, callee = 0, collections.Counter(), collections.Counter(), "", ""
+    alone, function, callee = 0, "", ""
+    within: Counter[str] = collections.Counter()
+    called: Counter[str] = collections.Counter()
     for before, line in zip([""] + text, text):
         function = line[3:] if line.startswith("fn=") else function
         if line[:1].isdigit():
@@ -222,11 +222,11 @@ def check_callgrind(told):
     same("what callgrind_annotate prints", (ran.returncode, f"{told.ran.used:,} (100.0%)  PROGRAM TOTALS" in ran.stdout.decode()), (0, True))
 
 
-def check_pprof(told):
+def check_pprof(told: profile.Profile) -> None:
     """Its samples are the units by call path, and by line; and pprof itself reads it."""
     data = pprof.written(told, "guest.wasm")
     read = desk_pprof.Profile(data)
-    by_line = collections.Counter()
+    by_line: Counter[Tuple[str, int]] = collections.Counter()
     for (_, file, line), units in told.lines.items():
         by_line[file, line] += units
     same("pprof's unit", read.unit, ["units"])
@@ -241,15 +241,15 @@ def check_pprof(told):
     same("what pprof prints", (ran.returncode, f"100% of {told.ran.used} total" in ran.stdout.decode()), (0, True))
 
 
-def covered_part():
+def covered_part() -> None:
     """Each line is counted as often as its mark says that it runs, also where a run stops; and all counts together are the units of the runs."""
     file = guests.built(OUT, EXAMPLES, "covered")
     source = lines.wanted(file.read_bytes(), None) if file else None
-    if not source:
+    if not file or not source:
         print("skipped: covered: clang, wasm-ld or llvm-symbolizer is missing")
         return
     tried = sum(covers(file, source, *it) for it in (((0, 5, 12), 10**6), ((13,), 10**6), ((20, 3, 64), 10**6), ((40, 9), 300)))
-    words = [sys.executable, "-m", "wasmloop.cover", file, "0", "--least", "100", "--lcov", OUT / "lcov"]
+    words = [sys.executable, "-m", "wasmloop.cover", str(file), "0", "--least", "100", "--lcov", str(OUT / "lcov")]
     ran = subprocess.run(words, capture_output=True, check=False)
     same("a cover of an empty request", (ran.returncode, b"not run: never" in ran.stdout, b"expected 100" in ran.stderr), (1, True, True))
     never = next(number for number, times in marked_to_run().items() if times == "0")
@@ -257,14 +257,14 @@ def covered_part():
     print(f"covered: {tried} lines are counted as often as they run")
 
 
-def marked_to_run():
+def marked_to_run() -> Dict[int, str]:
     """Of each marked line how often it runs in a request of n bytes."""
     text = Path(__file__).with_name("desk").joinpath("covered.c").read_text()
     marks = {number: re.search(r"RUNS (.*) \*/", line) for number, line in enumerate(text.split("\n"), 1)}
     return {number: mark[1] for number, mark in marks.items() if mark}
 
 
-def covers(file, source, sizes, fuel):
+def covers(file: Path, source: lines.Lines, sizes: Sequence[int], fuel: int) -> int:
     """How many marked lines are counted right in requests of so many bytes; those of runs without fuel have no marks."""
     data = file.read_bytes()
     host, coverage = wasmloop.Module(data), cover.Coverage(wasm.Module(data), source)

@@ -3,8 +3,10 @@
 usage: PYTHONPATH=capi/python WASMLOOP_LIBRARY=LIBRARY desk_test.py PROGRAM OUT [PART..]
 
 The parts are lines, hosts, units, callbacks, covered, warm, log, instances, fuzz and words; default: all. Parts that need a missing compiler are
-skipped with a message. HOSTS in the environment is how many random hosts there are (1,000), SEED (0) which ones.
+skipped with a message; desk_hosts.py says what HOSTS and SEED in the environment are.
 """
+
+from __future__ import annotations
 
 import json
 import os
@@ -15,21 +17,22 @@ import shutil
 import subprocess
 import sys
 import warnings
-from concurrent.futures import ThreadPoolExecutor
 from pathlib import Path
+from typing import Callable, Dict, List, Sequence, Tuple
 
 import desk_checks
 import desk_guests as guests
+import desk_hosts
 import desk_profiles
 import wasmloop
-from desk_checks import EXAMPLES, OUT, PROGRAM, THREADS, bad, same
-from wasmloop import _errors, callbacks, freeze, lines, log, lower, plugin_record, record, replay, runs
+from desk_checks import EXAMPLES, OUT, bad, same
+from expecting import number
+from wasmloop import callbacks, freeze, lines, log, lower, plugin_record, record, replay, runs
 
-HOSTS, SEED = int(os.environ.get("HOSTS", "1000")), int(os.environ.get("SEED", "0")) * 10**6
 REQUESTS = 200
 
 
-def lines_part():
+def lines_part() -> None:
     """Each planted trap gets its line: in the guest as it is, stripped, linked with shorter numbers, and lowered."""
     if not (shutil.which("clang") and shutil.which("wasm-ld") and any(map(shutil.which, lines.KNOWN))):
         print("skipped: lines: clang, wasm-ld or llvm-symbolizer is missing")
@@ -50,18 +53,18 @@ def lines_part():
     beside()
 
 
-def stopped(file, ran, debug, wanted):
+def stopped(file: str, ran: bytes, debug: bytes, wanted: Dict[int, int]) -> None:
     """What the package raises has the line where the module is given `debug`, and no line elsewhere."""
     with wasmloop.Module(ran, debug) as told, wasmloop.Module(ran) as silent:
         for op, line in list(wanted.items())[::10]:
             given = bytes(range(1, 9)) * 2
             plain, reply = silent.work(op, given), told.work(op, given)
             same(f"the reply of trap {op} without its line", plain, reply._replace(line=""))
-            same(f"the line of trap {op}", re.search(f"{file}:([0-9]+)", reply.line + f"{file}:0")[1], str(line))
+            same(f"the line of trap {op}", re.findall(f"{file}:([0-9]+)", reply.line)[:1], [str(line)])
             same(f"the words of trap {op}", [str(ended_by(it)).count(f"{file}:{line}") > 0 for it in (reply, plain)], [True, False])
 
 
-def ended_by(reply):
+def ended_by(reply: wasmloop.Reply) -> object:
     """What the value of a reply raises."""
     try:
         return reply.value
@@ -69,9 +72,10 @@ def ended_by(reply):
         return pickle.loads(pickle.dumps(why))
 
 
-def beside():
+def beside() -> None:
     """A debug module beside the file is found, calls of an instance have lines, and what is no debug module is reported."""
-    data = guests.built(OUT, EXAMPLES, "parse").read_bytes()
+    file = guests.built(OUT, EXAMPLES, "parse")
+    data = file.read_bytes() if file else sys.exit("clang or wasm-ld is missing")
     alone = OUT / "beside"
     alone.mkdir(exist_ok=True)
     (alone / "it.debug.wasm").unlink(missing_ok=True)
@@ -82,28 +86,29 @@ def beside():
     same("the line by a debug module beside", ("parse.c:" in line, line), (True, lines.Lines(data, data).of(first_byte(data))))
     with wasmloop.Module(data, data).instance() as it:
         why = raised(lambda: it.call("uv_work", 0, fuel=3))
-        same("the line of a call", ("parse.c:" in str(why), why.line in it.stop_told(data)), (True, True))
+        same("the line of a call", ("parse.c:" in str(why), str(getattr(why, "line", None)) in (it.stop_told(data) or "")), (True, True))
     plain = (EXAMPLES / "crc32.wasm").read_bytes()
     for debug, told in ((b"xyz", "debug: not a WebAssembly module"), (plain, "debug: the module has no DWARF: compile with -g")):
         same("what is said of a debug module", str(raised(lambda: wasmloop.Module(data, debug))), told)
 
 
-def first_byte(data):
+def first_byte(data: bytes) -> int:
     """Where a division by zero stops."""
     with wasmloop.Module(data).job(0, b"1/0") as job:
-        return int(lines.PLACE.search(job.run().stop_told(data))[1])
+        return int(lines.PLACE.findall(job.run().stop_told(data) or "")[0])
 
 
-def raised(call):
+def raised(call: Callable[[], object]) -> object:
     try:
         return call()
     except (wasmloop.Stopped, ValueError) as why:
         return why
 
 
-def traps_of(ran, debug, wanted):
+def traps_of(ran: bytes, debug: bytes, wanted: Dict[int, int]) -> List[Tuple[int, int, str, List[Sequence[lines.Frame]]]]:
     """For each trap its sentence, with lines, and the line where it was planted."""
-    source, host, found = lines.Lines(ran, debug), wasmloop.Module(ran), []
+    source, host = lines.Lines(ran, debug), wasmloop.Module(ran)
+    found: List[Tuple[int, int, str, List[int]]] = []
     for op, line in wanted.items():
         with host.job(op, bytes(range(1, 9)) * 2) as job:
             outcome = job.run().reply().outcome
@@ -115,7 +120,7 @@ def traps_of(ran, debug, wanted):
     return [(op, line, outcome, source.look_up(places)) for op, line, outcome, places in found]
 
 
-def is_right(file, op, line, outcome, calls):
+def is_right(file: str, op: int, line: int, outcome: str, calls: List[Sequence[lines.Frame]]) -> bool:
     """Whether the innermost place in the file, of all calls inside out, is that line; those of a panic lie in other files, or are marked."""
     found = next((at for frames in calls for _, name, at in frames if os.path.basename(name) == file and at not in guests.PANIC), None)
     if found != line:
@@ -123,113 +128,7 @@ def is_right(file, op, line, outcome, calls):
     return found == line
 
 
-def hosts_part():
-    """Random hosts: the replay has what the host itself saw, and the script prints the same log."""
-    names = sorted(EXAMPLES.glob("*.wasm")) + [it for it in (guests.built(OUT, EXAMPLES, it) for it in ("racy", "waits")) if it]
-    loops = [it for it in names if wasmloop.Module(it.read_bytes()).shape().main]
-    with ThreadPoolExecutor(THREADS) as pool:
-        told = list(pool.map(lambda seed: one_host(seed, loops[seed % len(loops)]), range(SEED, SEED + HOSTS)))
-    for seed, why in enumerate((why for why, _, _ in told), SEED):
-        if why:
-            bad(f"host {seed}, {loops[seed % len(loops)].name}: {why}")
-    failed = sum(it[2] for it in told)
-    print(f"hosts: {sum(not it[0] for it in told)} of {HOSTS} replay to the same log, {sum(it[1] for it in told)} lines, {failed} failures")
-
-
-def one_host(seed, file):
-    """What is wrong, how many lines the log has, and whether the loop failed."""
-    rng, data, path = random.Random(seed), file.read_bytes(), OUT / f"host{seed}.record"
-    live = drive(rng, data, str(path), asks=seed % 3 == 0)
-    rows = replay.rows_of(str(path))
-    again, log, seen = replay.Replay(rows), [], []
-    try:
-        while again.next():
-            word = rows[again.at - 1][0]
-            if word in ("step", "turn"):
-                log += again.log
-                seen += again.log if word == "step" else again.log[-1:]
-        if seen != live:
-            return "the replay is another", len(log), again.failed
-        script = replay.script_of(rows)
-    except replay._tool.Failed as why:
-        return "" if seed % 3 == 0 and "request" in str(why) else str(why), len(log), again.failed
-    path.with_suffix(".json").write_text(script)
-    told = subprocess.run([PROGRAM, "script", path.with_suffix(".json")], capture_output=True, check=False).stdout.decode().split("\n")
-    told = [it for it in told if it.startswith("loop ")]
-    if ended(told) != ended(log):
-        return "the script is another", len(log), again.failed
-    return "", len(log), again.failed
-
-
-def ended(log):
-    """(a script says once of a loop that it has failed, in a line of its own)"""
-    return [it for it in log if it != "loop 0 failed"]
-
-
-def drive(rng, data, path, asks):
-    """A host that does what it likes, in any order: what each of its steps and turns told it last."""
-    module = wasmloop.Module(data)
-    words = {"fuel": rng.choice([300, 3000, 10**6]), "work_fuel": rng.choice([200, 5000, 10**6]), "depth": rng.choice([8, 64])}
-    live, jobs, now = [], [], 0
-    other = wasmloop.Loop(module, 1)
-    with record.Loop(module, data, path, **words) as loop:
-        def saw(did):
-            live.append(replay.line_of(did, loop.emits() if did.what == wasmloop.RAN and did.emits else []))
-
-        for _ in range(rng.randrange(20, 160)):
-            it = rng.random()
-            if it < 0.15 or _errors._is_paused(loop.handle):
-                did = sliced(rng, loop)
-                if did:
-                    saw(did)
-            elif it < 0.3:
-                saw(loop.step())
-            elif it < 0.45:
-                saw(loop.turn(rng.choice([1, 3, 2**32 - 1])).did)
-            elif it < 0.6 and len(jobs) < 12:
-                job = loop.next_job()
-                jobs += [[job, False]] if job else []
-            elif it < 0.75 and jobs:
-                job = rng.choice(jobs)
-                if not job[1]:
-                    job[1] = True
-                    loop.start(job[0])
-            elif it < 0.88 and jobs:
-                loop.accept(jobs.pop(rng.randrange(len(jobs)))[0].run())
-            elif it < 0.92:
-                now += rng.randrange(30)
-                loop.clock(now)
-            elif it < 0.96:
-                loop.cancel(rng.randrange(1, 8))
-            elif it < 0.98:
-                loop.send(rng.randrange(3))
-            elif asks:
-                loop.request(rng.randrange(4), rng.randbytes(rng.randrange(9)) if hasattr(rng, "randbytes") else b"abc")
-            else:
-                stranger(loop, other)
-    return live
-
-
-def sliced(rng, loop):
-    """A slice of a step or of a turn: the step that is over at its end, if one is."""
-    units = rng.choice([1, 30, 500])
-    if rng.random() < 0.5:
-        return loop.step_for(units)
-    turned = loop.turn_for(units, rng.choice([1, 3, 2**32 - 1]))
-    return turned.did if turned else None if _errors._is_paused(loop.handle) else loop.turned.did
-
-
-def stranger(loop, other):
-    """A job of another loop, which this one doesn't know."""
-    while other.step().what not in (wasmloop.OVER, wasmloop.FAILED, wasmloop.ENTERED):
-        pass
-    job = other.next_job()
-    if job:
-        loop.start(job)
-        loop.accept(job.run())
-
-
-def warm_part():
+def warm_part() -> None:
     """Frozen guests answer as those that weren't."""
     file = guests.built(OUT, EXAMPLES, "warm")
     if file:
@@ -248,26 +147,27 @@ def warm_part():
         same("a module that is frozen twice", twice, made)
     data = guests.with_globals()
     for init, wanted in ((None, 16), ("init", -25)):
-        made = wasmloop.Module(freeze.freeze(data, init)[0])
-        same(f"globals and memory after {init}", [made.work(op).value - op for op in range(3)], [wanted] * 3)
+        host = wasmloop.Module(freeze.freeze(data, init)[0])
+        same(f"globals and memory after {init}", [host.work(op).value - op for op in range(3)], [wanted] * 3)
     constructors()
     tried = 0
     for file in sorted(EXAMPLES.glob("*.wasm")):
         data = file.read_bytes()
         shape = wasmloop.Module(data).shape()
         if shape.work:
-            made = wasmloop.Module(freeze.freeze(data)[0])
+            host = wasmloop.Module(freeze.freeze(data)[0])
             for op in range(4):
-                before, after = (it.work(op, b"abc") for it in (wasmloop.Module(data), made))
+                before, after = (it.work(op, b"abc") for it in (wasmloop.Module(data), host))
                 same(f"{file.name} {op}", after[:3], before[:3])
                 tried += 1
     print(f"warm: {tried} requests to examples that were frozen as they are")
 
 
-def constructors():
+def constructors() -> None:
     """Static constructors of C++ run once as the start function of what `cc` builds, and not at all in what is frozen. A memory that no module
     can hold is reported."""
-    if not guests.built(OUT, EXAMPLES, "warm"):
+    full = guests.built(OUT, EXAMPLES, "full")
+    if not full:
         return
     made = OUT / "statics.wasm"
     subprocess.run([sys.executable, "-m", "wasmloop.cc", Path(__file__).with_name("desk") / "statics.cpp", "-o", made], check=True, capture_output=True)
@@ -277,12 +177,11 @@ def constructors():
         same(f"square {op}", (before.value, after.value), (3 * op * op + 1,) * 2)
         same("whether a frozen constructor runs", after.used < before.used / 10, True)
     statics_in_rust()
-    full = guests.built(OUT, EXAMPLES, "full")
     ran = subprocess.run([sys.executable, "-m", "wasmloop.freeze", full, "--call", "init", "-o", OUT / "f.wasm"], capture_output=True, check=False)
     same("the status of a frozen module that is too large", (ran.returncode, b"1,048,576 is the limit" in ran.stderr), (3, True))
 
 
-def statics_in_rust():
+def statics_in_rust() -> None:
     """A static of Rust is frozen as `init` left it, and so is the log."""
     for name in (EXAMPLES / "uv.rs", Path(__file__).with_name("desk") / "statics.rs"):
         shutil.copy(name, OUT)
@@ -297,7 +196,7 @@ def statics_in_rust():
     same("the frozen log", log.of_request(runs.Request(warm, wasmloop.Module(warm), 4, b""))[0], ["filled", "work"])
 
 
-def log_part():
+def log_part() -> None:
     """The lines that a guest has logged: in a request, in an instance, and in a recorded loop that failed or not."""
     file = guests.built(OUT, EXAMPLES, "logs")
     if not file:
@@ -306,7 +205,7 @@ def log_part():
     host = wasmloop.Module(data)
     same("the log of a request", log.of_request(runs.Request(data, host, 4, b""))[0], ["work", "op -4"])
     found, told = log.of_request(runs.Request(data, host, 3, b""))
-    same("the log of a request that stopped", (found, "unreachable" in told), (["work", "op -3"], True))
+    same("the log of a request that stopped", (found, "unreachable" in (told or "")), (["work", "op -3"], True))
     with host.instance() as it:
         same("an empty log", log.read(it), [])
         same("a call", it.call("uv_work", 5), 5)
@@ -323,10 +222,10 @@ def log_part():
     print("log: requests, instances and recorded loops")
 
 
-def recorded(host, data, path):
+def recorded(host: wasmloop.Module, data: bytes, path: str) -> bytes:
     """Records an instance: calls that return, calls in slices, one that traps, one that is given up. Returns the memory before the one that traps."""
     with plugin_record.Instance(host, data, path) as it:
-        at = it.call("place")
+        at = number(it, "place")
         for n in range(21):
             it.memory[at:at + 3] = bytes([n % 3, 1, 1])
             same(f"call {n + 2}", it.call("add", 3), 1000 // (66 - sum(k % 3 + 2 for k in range(n + 1))))
@@ -344,7 +243,7 @@ def recorded(host, data, path):
     return before
 
 
-def instances_part():
+def instances_part() -> None:
     """A recorded plug-in fails again, at the same call; the module that is written before it stands as it stood."""
     file, path, out = guests.built(OUT, EXAMPLES, "keeps"), str(OUT / "keeps.record"), str(OUT / "keeps_before.wasm")
     if not file:
@@ -371,7 +270,7 @@ def instances_part():
     print("instances: 25 recorded calls are repeated, and a module stands before one of them")
 
 
-def bytes_recorded(data, path):
+def bytes_recorded(data: bytes, path: str) -> None:
     """Calls with bytes are recorded with them: the last reply is that of the record repeated."""
     with plugin_record.Instance(wasmloop.Module(data), data, path) as it:
         for word in b"first", b"", b"abc":
@@ -381,7 +280,7 @@ def bytes_recorded(data, path):
     same("their last reply", reply, wasmloop.Module(data).work(0, b"abc").data)
 
 
-def fuzz_part():
+def fuzz_part() -> None:
     """The fuzzer finds the planted fault, and the input that it writes repeats it; and an input that costs too much per byte."""
     file = guests.built(OUT, EXAMPLES, "planted")
     if not file or not guests.has_fuzzer():
@@ -390,7 +289,8 @@ def fuzz_part():
     found, first = Path(f"{file}.found"), b""
     for old in found.parent.glob(found.name + "*"):
         old.unlink()
-    for words, told in (([], "trapped: division by zero"), (["--per-byte", "2"], "units, more than 2 per byte")):
+    rows: List[Tuple[List[str], str]] = [([], "trapped: division by zero"), (["--per-byte", "2"], "units, more than 2 per byte")]
+    for words, told in rows:
         ran = subprocess.run([sys.executable, "-m", "wasmloop.fuzz", str(file), "0", "--most", "32", "--seconds", "60", "--seed", "3", *words],
                              capture_output=True, check=False)
         said = (ran.stdout + ran.stderr).decode()
@@ -405,7 +305,7 @@ def fuzz_part():
     print("fuzz: the planted fault, and units per byte")
 
 
-def words_part():
+def words_part() -> None:
     """What the tools print, and the status that they end with."""
     crc, tick = EXAMPLES / "crc32.wasm", EXAMPLES / "ticker.wasm"
     (OUT / "request").write_bytes(b"abc")
@@ -459,11 +359,11 @@ def words_part():
         if ran.returncode != status or told not in said or "Traceback" in said:
             bad(f"wasmloop.{words}: status {ran.returncode}: {said}")
     same("the tools", "profile" in subprocess.run([sys.executable, "-m", "wasmloop"], capture_output=True, check=False).stdout.decode(), True)
-    said = []
-    stepper = replay.Stepper(replay.rows_of(str(OUT / "v.record")), said.append)
+    steps: List[str] = []
+    stepper = replay.Stepper(replay.rows_of(str(OUT / "v.record")), steps.append)
     for letters in ("n", "n", "b", "c", "w", "g 2", "b", "b", "?"):
         stepper.obey(letters.split())
-    same("the steps", [it.split(":")[0] for it in said if " of " in it[:12]], ["2 of 3", "3 of 3", "2 of 3", "3 of 3", "2 of 3", "1 of 3", "1 of 3"])
+    same("the steps", [it.split(":")[0] for it in steps if " of " in it[:12]], ["2 of 3", "3 of 3", "2 of 3", "3 of 3", "2 of 3", "1 of 3", "1 of 3"])
     short = record.Loop(wasmloop.Module(code), code, str(OUT / "short.record"), most=3 * len(code))
     for ms in range(99):
         short.clock(ms)
@@ -472,18 +372,18 @@ def words_part():
     while again.next():
         pass
     same("a record that is full", (again.full, again.at < 99), (True, True))
-    same("where it failed", sum("ran out of fuel" in it for it in said), 3)
+    same("where it failed", sum("ran out of fuel" in it for it in steps), 3)
     same("the script", json.loads(replay.script_of(replay.rows_of(str(OUT / "u.record"))))["workers"], 16)
     print("words: statuses, messages and steps")
 
 
 PARTS = {
-    "lines": lines_part, "hosts": hosts_part, "units": desk_profiles.units_part, "callbacks": desk_profiles.callbacks_part,
+    "lines": lines_part, "hosts": desk_hosts.hosts_part, "units": desk_profiles.units_part, "callbacks": desk_profiles.callbacks_part,
     "covered": desk_profiles.covered_part, "warm": warm_part, "log": log_part, "instances": instances_part, "fuzz": fuzz_part, "words": words_part,
 }
 
 
-def main():
+def main() -> int:
     warnings.simplefilter("ignore", wasmloop.InertImports)      # (as the tools do)
     OUT.mkdir(parents=True, exist_ok=True)
     for part in sys.argv[3:] or PARTS:

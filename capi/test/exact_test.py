@@ -4,35 +4,41 @@ those that the host charges. The guests are built as there, by Debian's sources;
 
 usage: PYTHONPATH=capi/python WASMLOOP_LIBRARY=LIBRARY exact_test.py PROGRAM [NAME..]     ends with 1 if a sum is another, or not exact
 """
+
+from __future__ import annotations
+
 import pathlib
 import sys
 import tempfile
 import warnings
+from typing import Iterator, Sequence, Tuple
 
 TOP = pathlib.Path(__file__).resolve().parent.parent.parent
 sys.path[:0] = [str(TOP / "examples/libraries"), str(TOP / "examples/rust/crates")]
 import check as crates                                  # noqa: E402
-import ports                                            # noqa: E402
-import run as libraries                                 # noqa: E402
-from wasmloop import InertImports, Module, profile, runs, wasm        # noqa: E402
+import compiling                                        # noqa: E402
+import libraries                                        # noqa: E402
+from wasmloop import InertImports, Module, profile, runs, wasm  # noqa: E402
 
+# name, the request's description, module, operation, request
+Asked = Tuple[str, str, bytes, int, bytes]
 DEPTH = 127                                             # (with counters a run has one nested call more)
 
 
-def of_libraries(names):
-    """(name, request's description, module, operation, request) of each request of these libraries."""
-    lacking = [it for it in sorted({it.package for it in ports.PORTS.values()}) if not libraries.fetch(it)] if names else []
+def of_libraries(names: Sequence[str]) -> Iterator[Asked]:
+    """Each request of these libraries."""
+    lacking = [it for it in sorted({it.package for it in libraries.PORTS.values()}) if not compiling.fetch(it)] if names else []
     if lacking:                                         # (their files are requests of others)
         print(f"left out: libraries: the sources of {', '.join(lacking)} can't be fetched")
         return
     for name in names:
-        libraries.write_made(name, ports.PORTS[name])
-        data = libraries.module(name, ports.PORTS[name]).read_bytes()
-        for _, operation, request, what in (it for it in ports.rows(libraries.SOURCES) if it[0] == name):
+        compiling.write_made(name, libraries.PORTS[name])
+        data = compiling.module(name, libraries.PORTS[name]).read_bytes()
+        for _, operation, request, what in (it for it in libraries.rows(compiling.SOURCES) if it[0] == name):
             yield name, what, data, operation, request
 
 
-def of_crates(program, folder, names):
+def of_crates(program: pathlib.Path, folder: pathlib.Path, names: Sequence[str]) -> Iterator[Asked]:
     """The same of these crates."""
     for name in names:
         made = crates.module(program, folder, name)
@@ -43,7 +49,7 @@ def of_crates(program, folder, names):
             yield name, f"{len(request)} bytes", made.read_bytes(), 0, request
 
 
-def is_exact(name, what, data, operation, request):
+def is_exact(name: str, what: str, data: bytes, operation: int, request: bytes) -> bool:
     """Whether each sum is the host's."""
     host = Module(data)
     told = profile.Profile(wasm.Module(data), runs.Request(data, host, operation, request, DEPTH), samples=3)
@@ -54,12 +60,12 @@ def is_exact(name, what, data, operation, request):
     return right
 
 
-def main(program, names):
+def main(program: pathlib.Path, names: Sequence[str]) -> int:
     warnings.simplefilter("ignore", InertImports)       # (as the tools do)
     with tempfile.TemporaryDirectory() as room:
         folder = pathlib.Path(room)
-        (folder / "soft.wasm").write_bytes(libraries.soft().read_bytes())
-        known = [it for it in ports.PORTS if not names or it in names], [it for it in crates.REQUESTS if not names or it in names]
+        (folder / "soft.wasm").write_bytes(compiling.soft().read_bytes())
+        known = [it for it in libraries.PORTS if not names or it in names], [it for it in crates.REQUESTS if not names or it in names]
         ran = [[(it[0], is_exact(*it)) for it in found] for found in (of_libraries(known[0]), of_crates(program, folder, known[1]))]
     right = [it for part in ran for _, it in part]
     numbers = [len({name for name, _ in part}) for part in ran]

@@ -2,6 +2,9 @@
 
 usage: PYTHONPATH=capi/python WASMLOOP_LIBRARY=LIBRARY fuzz_seeds.py [SEEDS]
 """
+
+from __future__ import annotations
+
 import resource
 import subprocess
 import sys
@@ -14,18 +17,18 @@ EXAMPLES = Path(__file__).resolve().parent.parent.parent / "examples"
 SECONDS, BUSY = 60, 20                                  # a busy machine may take so many times as long
 
 
-def spent():
+def spent() -> float:
     """The processor time of all that has run, the compiler included."""
     used = resource.getrusage(resource.RUSAGE_CHILDREN)
     return used.ru_utime + used.ru_stime
 
 
-def bounded():
+def bounded() -> None:
     """Ends each process that has used so much processor time."""
     resource.setrlimit(resource.RLIMIT_CPU, (SECONDS, SECONDS))
 
 
-def finds(file, seed):
+def finds(file: Path, seed: int) -> bool:
     """Whether this seed finds the fault in time."""
     began = spent()
     ran = subprocess.run([sys.executable, "-m", "wasmloop.fuzz", file, "0", "--most", "32", "--seconds", str(BUSY * SECONDS), "--seed", str(seed)],
@@ -35,7 +38,7 @@ def finds(file, seed):
     return found and took <= SECONDS
 
 
-def main(seeds=10):
+def main(seeds: int = 10) -> int:
     with tempfile.TemporaryDirectory() as room:
         file = guests.built(Path(room), EXAMPLES, "planted")
         if not file or not guests.has_fuzzer():

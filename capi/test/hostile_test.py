@@ -4,6 +4,8 @@ and emitted values. Each ends in seconds and within some megabytes, as an error 
 usage: PYTHONPATH=capi/python WASMLOOP_LIBRARY=LIBRARY hostile_test.py OUT [PART..]
 """
 
+from __future__ import annotations
+
 import asyncio
 import os
 import resource
@@ -11,18 +13,23 @@ import subprocess
 import sys
 import time
 from pathlib import Path
+from typing import Callable, Mapping, Optional, Sequence, Tuple, Type, TypeVar, Union, overload
+from unittest import mock
 
 import expecting
 from expecting import TOP, run, same
 from wasmloop import Error, Module, __main__ as tools, _tool, ask, callbacks, lines, log, lower, profile, record, replay, runs, served, wasm
+from wasmloop.lowering.binary import Refused
 from wasmloop.wasm import CODE, EXPORT, FUNCTION, MEMORY, TABLE, TYPE, i32, sized, text, u, vec
 
 OUT = Path(sys.argv[1])
 ELEMENT, DATA_COUNT, SECONDS, MEGABYTES = 9, 12, 20, 600
 NOP, END, DROP, ADD, LOCAL_GET, GET_0, SET_0 = b"\x01", b"\x0b", b"\x1a", b"\x6a", 0x20, b"\x20\0", b"\x21\0"
+Found = TypeVar("Found")
 
 
-def module(bodies, exports, types=(b"\x60\0\0",), kinds=None, parts=None, custom=()):
+def module(bodies: Sequence[bytes], exports: Mapping[str, int], types: Sequence[bytes] = (b"\x60\0\0",), kinds: Optional[Sequence[int]] = None,
+           parts: Optional[Mapping[int, bytes]] = None, custom: Sequence[Tuple[str, bytes]] = ()) -> bytes:
     """A module of these bodies, without their size and locals; `exports` names functions by their index."""
     sections = {TYPE: vec(types), FUNCTION: vec([u(it) for it in kinds or [0] * len(bodies)]),
                 EXPORT: vec([text(name) + b"\0" + u(at) for name, at in exports.items()]),
@@ -31,21 +38,28 @@ def module(bodies, exports, types=(b"\x60\0\0",), kinds=None, parts=None, custom
     return b"\0asm\1\0\0\0" + held + b"".join(b"\0" + sized(text(name) + it) for name, it in custom)
 
 
-def names(*given):
+def names(*given: str) -> Tuple[str, bytes]:
     """The section with the names of functions."""
     return "name", b"\1" + sized(vec([u(at) + text(name) for at, name in enumerate(given)]))
 
 
-def guest(name):
+def guest(name: str) -> bytes:
     """The bytes of the module that NAME.c makes."""
     run("clang", "--target=wasm32", "-mcpu=mvp", "-O2", "-I", TOP / "examples", "-c", "-o", OUT / f"{name}.o", OUT / f"{name}.c")
     run("wasm-ld", "--no-entry", "--export-table", "-z", "stack-size=16384", "-o", OUT / f"{name}.wasm", OUT / f"{name}.o")
     return (OUT / f"{name}.wasm").read_bytes()
 
 
-def ended(what, call, *kinds):
+@overload
+def ended(what: str, call: Callable[[], Found]) -> Found: ...
+@overload
+def ended(what: str, call: Callable[[], Found], *kinds: Type[Exception]) -> Union[Found, Exception]: ...
+
+
+def ended(what: str, call: Callable[[], Found], *kinds: Type[Exception]) -> Union[Found, Exception]:
     """What a call raised or returned, within the time."""
     began = time.process_time()
+    found: Union[Found, Exception]
     try:
         found = call()
     except kinds as why:
@@ -55,27 +69,27 @@ def ended(what, call, *kinds):
     return found
 
 
-def numbers():
+def numbers() -> None:
     """A number in a million bytes, behind a section that the host does not read."""
     for what, held in (("a size", b"\1" + b"\xff" * 1_000_000), ("a count", b"\1" + u(900_000) + b"\xff" * 900_000)):
         data = module([b""], {"f": 0}, custom=[("name", held)])
-        found = ended(what, lambda data=data: wasm.Module(data), wasm.Malformed)
+        found = ended(what, lambda: wasm.Module(data), wasm.Malformed)
         same(what, type(found).__name__, "Malformed")
 
 
-def long_names():
+def long_names() -> None:
     """A function that calls itself, with a name of 900,000 letters, and one that writes to a terminal."""
     # f(n): if n, call f(n - 1)
     body = GET_0 + b"\x04\x40" + GET_0 + i32(-1) + ADD + b"\x10\0" + END
     for name in ("a" * 900_000, "\x1b]0;title\x07" * 10):
         data = module([body], {"f": 0}, [b"\x60\1\x7f\0"], custom=[names(name)])
         with Module(data) as host:
-            made = ended("names", lambda data=data, host=host: profile.Profile(wasm.Module(data), runs.Call(data, host, "f", (100,), 128)))
+            made = ended("names", lambda: profile.Profile(wasm.Module(data), runs.Call(data, host, "f", (100,), 128)))
         same("the paths of a profile", sum(map(len, made.paths)) < 10_000_000, True)
         same("what they are printed as", all(it.isprintable() for it in made.paths), True)
 
 
-def logs():
+def logs() -> None:
     """Rings of a size that no guest needs, at no address, and functions of another type."""
     memory = {MEMORY: vec([b"\0\1"])}
     types = [b"\x60\0\1\x7f", b"\x60\1\x7f\1\x7f", b"\x60\0\0", b"\x60\0\2\x7f\x7f"]
@@ -86,16 +100,16 @@ def logs():
     for what, (kind, body) in bodies.items():
         data = module([body], {log.EXPORT: 0}, types, [kind], memory)
         with Module(data) as host, host.instance() as it:
-            found = ended(f"log, {what}", lambda it=it: log.read(it), Error)
+            found = ended(f"log, {what}", lambda: log.read(it), Error)
             same(f"log, {what}", isinstance(found, Error) or found == [], True)
 
 
-def questions():
+def questions() -> None:
     """What looks like a plug-in that asks."""
     types = [b"\x60\0\1\x7f", b"\x60\1\x7f\1\x7f", b"\x60\0\2\x7f\x7f", b"\x60\0\0"]
     memory = {MEMORY: vec([b"\0\1"])}
 
-    async def answer(_):
+    async def answer(_: bytes) -> bytes:
         return b""
 
     for what, kinds, body, expected in (("two results", [2, 1, 3], i32(0) + i32(0), "NoneType"), ("an argument", [1, 1, 3], i32(0), "NoneType"),
@@ -103,58 +117,55 @@ def questions():
                                         ("ever more, with much fuel", [0, 1, 3], i32(16), "Error")):
         data = module([body, i32(0), b""], {"ask_next": 0, "ask_answer": 1, "f": 2}, types, kinds, memory)
         with Module(data) as host, ask.Plugin(host, answer) as plugin:
-            found = ended(f"a question, {what}", lambda plugin=plugin: asyncio.run(plugin.call("f", fuel=10**9 if "much" in what else 20_000)), Error)
+            found = ended(f"a question, {what}", lambda: asyncio.run(plugin.call("f", fuel=10**9 if "much" in what else 20_000)), Error)
         same(f"a question, {what}", type(found).__name__, expected)
 
 
-def unlike():
+def unlike() -> None:
     """A debug module whose functions are large, and have little in common with those that ran."""
     mine = b"".join(b"\x41" + u(k % 60) + DROP for k in range(60_000))
     its = b"".join(b"\x41" + u(k * 7 % 60) + DROP + NOP for k in range(60_000))
     ran = module([mine], {"f": 0})
     debug = module([its], {"f": 0}, custom=[(".debug_line", b"")])
     found = ended("two functions without much in common", lambda: lines.Lines(ran, debug).address(len(ran) // 2))
-    same("it has some address", found > 0, True)
+    same("it has some address", (found or 0) > 0, True)
 
 
-def broken():
+def broken() -> None:
     """Debug modules that end too soon, in a function too: the sentence on a trap stays."""
     ran = module([b"\0"], {"f": 0}, custom=[names("f")])
     for body in (b"\x0e" + u(1 << 31), b"\x0e\xff", b"\xfc\x7f", b"\x02" * 100_000):
         debug = module([body + NOP * 3], {"f": 0}, custom=[names("f"), (".debug_line", b"")])
         for cut in (debug, debug[:-1], debug[:-16] + b"\0\0"):
-            same("a debug module", type(ended("a debug module", lambda cut=cut: told_by(ran, cut), ValueError)).__name__ in ("str", "ValueError"), True)
+            same("a debug module", type(ended("a debug module", lambda: told_by(ran, cut), ValueError)).__name__ in ("str", "ValueError"), True)
 
 
-def told_by(ran, debug):
+def told_by(ran: bytes, debug: bytes) -> str:
     """The sentence on a trap, with a debug module."""
     with Module(ran, debug) as host, host.instance() as it:
         try:
             it.call("f")
         except Error as why:
-            return it.stop_told(ran) + str(why)
-    return None
+            return (it.stop_told(ran) or "") + str(why)
+    sys.exit("the call of f returned")
 
 
-def symbolizers():
+def symbolizers() -> None:
     """A symbolizer that does not end, or prints without end, as a real one may where the DWARF says so."""
     ran = module([b"\0"], {"f": 0})
     debug = module([b"\0"], {"f": 0}, custom=[(".debug_line", b"")])
-    before, lines.SECONDS = lines.SECONDS, 1
     for name, text_of in (("sleeps", "exec sleep 100"), ("prints", "exec yes"), ("fails", "exit 3")):
         file = OUT / name
         file.write_text(f"#!/bin/sh\n{text_of}\n")
         file.chmod(0o755)
-        os.environ["SYMBOLIZER"] = str(file)
-        began = time.monotonic()
-        found = ended(name, lambda: lines.Lines(ran, debug).of(len(ran) - 2), _tool.Failed)
-        same(f"a symbolizer that {name}", (type(found).__name__, time.monotonic() - began < SECONDS), ("Failed", True))
-        same("the sentence without a line", "unreachable" in told_by(ran, debug), True)
-    del os.environ["SYMBOLIZER"]
-    lines.SECONDS = before
+        with mock.patch.dict(os.environ, SYMBOLIZER=str(file)), mock.patch.object(lines, "SECONDS", 1):
+            began = time.monotonic()
+            found = ended(name, lambda: lines.Lines(ran, debug).of(len(ran) - 2), _tool.Failed)
+            same(f"a symbolizer that {name}", (type(found).__name__, time.monotonic() - began < SECONDS), ("Failed", True))
+            same("the sentence without a line", "unreachable" in told_by(ran, debug), True)
 
 
-def siblings():
+def siblings() -> None:
     """A loop that calls 4,000 functions in turn: a call tree looks each up among its siblings."""
     count = 4000
     # f(n): do { call_indirect(n % count) } while (n -= 1)
@@ -167,30 +178,29 @@ def siblings():
     same("its units", made.ran.used > 100_000, True)
 
 
-def counts():
+def counts() -> None:
     """Numbers in a module that no host has checked: locals and labels that end far behind their function, in each of many."""
     many, far = 10_000, u(200_000)
     behind = ("x", bytes(600_000))
     labels = b"\0\x0e" + far + bytes(3)
     for what, body, reads in (("locals", far + bytes(3), wasm.Module), ("labels", labels, lambda data: [it.ops for it in wasm.Module(data).bodies])):
         data = module([], {}, parts={FUNCTION: vec([u(0)] * many), CODE: vec([sized(body)] * many)}, custom=[behind])
-        same(what, type(ended(what, lambda data=data, reads=reads: reads(data), wasm.Malformed)).__name__, "Malformed")
+        same(what, type(ended(what, lambda: reads(data), wasm.Malformed)).__name__, "Malformed")
 
 
-def inlined():
+def inlined() -> None:
     """A symbolizer that says of each place that it was inlined 20,000 times."""
     ran = module([b"\0"], {"f": 0}, custom=[names("f")])
     debug = module([b"\0"], {"f": 0}, custom=[(".debug_line", b"")])
     file = OUT / "inlines"
     file.write_text("#!/bin/sh\ncat > /dev/null\nyes 'name\nx.c:1:1' | head -n 40000\n")
     file.chmod(0o755)
-    os.environ["SYMBOLIZER"] = str(file)
-    told = ended("a place that is inlined", lambda: told_by(ran, debug))
+    with mock.patch.dict(os.environ, SYMBOLIZER=str(file)):
+        told = ended("a place that is inlined", lambda: told_by(ran, debug))
     same("its sentence", 0 < len(told) < 10_000 or len(told), True)
-    del os.environ["SYMBOLIZER"]
 
 
-def deep_paths():
+def deep_paths() -> None:
     """250 calls of a function that calls itself 120 times deep, with names of 900 letters and 1,000 exports: 30,000 call paths."""
     deep = GET_0 + b"\x04\x40" + GET_0 + i32(-1) + ADD + b"\x10\0" + END
     every = b"".join(i32(118) + b"\x10\0" for _ in range(250))
@@ -209,25 +219,24 @@ UV_MAIN() { uv_idle_start(uv_idle_init(), again); }
 """
 
 
-def long_records():
+def long_records() -> None:
     """A loop that never ends, of which a host takes 100,000 steps: the log of a replay comes in parts, and what a callback left is read."""
     (OUT / "idle.c").write_text(IDLE_C)
     data = guest("idle")
     with Module(data) as host, record.Loop(host, data, str(OUT / "idle.record"), 0) as loop:
         for _ in range(100_000):
             loop.step()
-    rows = replay.rows_of(OUT / "idle.record")
+    rows = replay.rows_of(str(OUT / "idle.record"))
     again, most = replay.Replay(rows), 0
     while again.next():
         most = max(most, len(again.log))
     same("the lines of a log at a time", (again.at, most <= replay.MOST_STEPS), (len(rows), True))
-    before, callbacks.MOST_COST = callbacks.MOST_COST, 3_000_000_000
-    found = ended("a ring that is read by many replays", lambda: log.of_callback(callbacks.Callback(rows, callbacks.LAST)), _tool.Failed)
+    with mock.patch.object(callbacks, "MOST_COST", 3_000_000_000):
+        found = ended("a ring that is read by many replays", lambda: log.of_callback(callbacks.Callback(rows, callbacks.LAST)), _tool.Failed)
     same("what a long record's guest has logged", type(found).__name__, "Failed")
-    callbacks.MOST_COST = before
 
 
-def lowered():
+def lowered() -> None:
     """Modules that take a tool long that rewrites them: types that become one, types of many parameters, calls up a long chain, nulls in the table."""
     some = [b"\x60" + sized(bytes(0x7D if k >> bit & 1 else 0x7F for bit in range(14))) + b"\0" for k in range(12_000)]
     table = {TABLE: vec([b"\x70\0" + u(20_000)]), ELEMENT: vec([b"\0" + i32(0) + END + vec([u(it) for it in range(12_000)])])}
@@ -243,8 +252,8 @@ def lowered():
              "a long passive segment": module([b"\x41\0\x41\0\x41\0\xfc\x08\0\0"], {}, parts={
                  MEMORY: vec([b"\0\1"]), DATA_COUNT: u(1), wasm.DATA: vec([b"\1" + sized(bytes(range(256)) * 2000)])})}
     for what, data in tried.items():
-        found = ended(what, lambda data=data: lower.lower(data, (Path(lower.SOFT)).read_bytes()), lower.Refused)
-        same(f"lower: {what}", isinstance(found, (tuple, lower.Refused)), True)
+        found = ended(what, lambda: lower.lower(data, Path(lower.SOFT).read_bytes()), Refused)
+        same(f"lower: {what}", isinstance(found, (tuple, Refused)), True)
 
 
 FLOOD_C = r"""
@@ -254,25 +263,26 @@ UV_MAIN() { uv_idle_start(uv_idle_init(), again); }
 """
 
 
-def floods():
+def floods() -> None:
     """A guest that emits without end: to a host that does not read, to one that reads slowly, and to a record."""
     (OUT / "flood.c").write_text(FLOOD_C)
     data = guest("flood")
 
-    async def unread(host):
+    async def unread(host: Module) -> int:
         async with served.Served(host) as loop:
             while len(loop._out) < served.MOST_EMITTED:
                 await asyncio.sleep(0.01)
             await asyncio.sleep(0.2)
             return len(loop._out)
 
-    async def slow(host):
+    async def slow(host: Module) -> int:
         async with served.Served(host) as loop:
             async for _ in loop.emits():
                 await asyncio.sleep(0)
                 if len(loop._out) >= served.MOST_EMITTED:
                     await asyncio.sleep(0.2)
                     return len(loop._out)
+        sys.exit("the guest stopped emitting")
 
     with Module(data) as host:
         same("nobody reads", ended("nobody reads", lambda: asyncio.run(unread(host))) <= served.MOST_EMITTED + 64, True)
@@ -282,7 +292,7 @@ def floods():
         same("a record", (ending, len(emits) <= record.MOST_VALUES + 64), ("limit", True))
 
 
-def statuses():
+def statuses() -> None:
     """Tools whose work was not done do not end with 0."""
     plain = OUT / "plain.wasm"
     plain.write_bytes(module([b""], {"uv_work": 0}, [b"\x60\1\x7f\1\x7f"], parts={CODE: vec([sized(b"\0" + i32(0) + END)])}))
@@ -297,12 +307,12 @@ def statuses():
         same(f"{tool} {' '.join(map(str, words))}: its status", done.returncode != 0, True)
         same(f"{tool}: a sentence and no traceback", (bool(done.stderr.strip()) or bool(done.stdout.strip()), "Traceback" in done.stderr), (True, False))
     for script in ("install.sh", "dist/prove.sh", "dist/pack.sh"):
-        for words in (["--nosuch"], ["--prefix=/x", "y"]):
-            done = subprocess.run([str(TOP / script), *words], capture_output=True, cwd=OUT, env={**os.environ, "PREFIX": str(OUT / "none")}, check=False)
-            same(f"{script} {words}: its status", done.returncode != 0, True)
+        for flags in (["--nosuch"], ["--prefix=/x", "y"]):
+            ran = subprocess.run([str(TOP / script), *flags], capture_output=True, cwd=OUT, env={**os.environ, "PREFIX": str(OUT / "none")}, check=False)
+            same(f"{script} {flags}: its status", ran.returncode != 0, True)
 
 
-def pipes():
+def pipes() -> None:
     """A tool whose reader is gone ends quietly, with status 1: its list, its help, and what it found."""
     env = {name: value for name, value in os.environ.items() if name != "PYTHONUNBUFFERED"}
     plain = OUT / "plain.wasm"
@@ -320,7 +330,7 @@ def pipes():
 PARTS = numbers, long_names, logs, questions, counts, unlike, broken, symbolizers, inlined, siblings, deep_paths, long_records, lowered, floods, statuses, pipes
 
 
-def main():
+def main() -> bool:
     OUT.mkdir(parents=True, exist_ok=True)
     for part in PARTS:
         if sys.argv[2:] and part.__name__ not in sys.argv[2:]:

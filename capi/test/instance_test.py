@@ -1,12 +1,16 @@
 """An instance from Python. usage: PYTHONPATH=capi/python WASMLOOP_LIBRARY=LIBRARY instance_test.py FOLDER"""
 
+from __future__ import annotations
+
 import sys
 import warnings
+from typing import Callable, Optional, Tuple, Type
 
 import wasmloop as w
+from expecting import number, of_other_type
 
 
-def fails(kind, do, **has):
+def fails(kind: Type[BaseException], do: Callable[[], object], **has: object) -> str:
     try:
         do()
     except kind as error:
@@ -23,17 +27,17 @@ it = module.instance()
 two = module.instance()
 assert [it.call("add", k) for k in (5, 7, -20)] == [5, 12, -8]
 assert two.call("add", 1) == 1
-at, room = it.call("buffer"), it.call("room")
+at, room = number(it, "buffer"), number(it, "room")
 
 
-def put(key, value):
+def put(key: bytes, value: bytes) -> object:
     it.memory[at:at + len(key) + len(value)] = key + value
     return it.call("put", len(key), len(value))
 
 
-def get(key):
+def get(key: bytes) -> Optional[bytes]:
     it.memory[at:at + len(key)] = key
-    size = it.call("get", len(key))
+    size = number(it, "get", len(key))
     return None if size < 0 else it.memory[at:at + size]
 
 
@@ -42,7 +46,7 @@ for k in range(60):
 assert all(get(b"key%d" % k) == b"value of %d" % k for k in range(60)) and get(b"none") is None
 assert it.call("count") == 60 and two.call("count") == 0
 print(fails(w.Stopped, lambda: it.call("divide", 1, 0), ending="trap", trap=2))
-assert it.stop() and "(divide), instruction " in it.stop_told(data)
+assert it.stop() and "(divide), instruction " in (it.stop_told(data) or "")
 assert it.call("add", 0) == 992 and not it.stop() and it.stop_told(data) is None
 assert it.call("divide", -7, 2) == -3 and it.call("divide", 2**32 - 7, 2) == -3
 print(fails(w.Stopped, lambda: it.call("spin", fuel=1000), ending="spent"))
@@ -51,16 +55,16 @@ print(fails(w.Error, lambda: it.call("absent"), status=w.NONE))
 print(fails(TypeError, lambda: it.call("add")))
 print(fails(w.Error, lambda: it.call("deep", 2**32), status=w.ARGUMENTS))
 print(fails(w.Error, lambda: it.call("deep", -2**31 - 1), status=w.ARGUMENTS))
-print(fails(TypeError, lambda: it.call("deep", "abc")))
+print(fails(TypeError, lambda: it.call("deep", of_other_type("abc"))))
 print(fails(w.Error, lambda: it.call("count\0x"), status=w.NONE))
 print(fails(w.Error, lambda: it.call("add", 1, fuel=-1), status=w.RANGE))
 print(fails(w.Error, lambda: it.call("add", 1, depth=129), status=w.RANGE))
 print(fails(w.Error, lambda: it.memory[len(it.memory):len(it.memory) + 1], status=w.RANGE))
 print(fails(ValueError, lambda: it.memory.__setitem__(slice(0, 4), b"abc")))
-print(fails(TypeError, lambda: it.memory[0]))
+print(fails(TypeError, lambda: it.memory[of_other_type(0)]))
 
 
-def in_slices(units, name, *args, **limits):
+def in_slices(units: int, name: str, *args: int, **limits: int) -> Tuple[object, int]:
     """How a call ends in slices of so many units, and how many pauses it makes."""
     call, pauses = two.begin(name, *args, **limits), 0
     while not call.run_for(units):
@@ -78,13 +82,13 @@ assert in_slices(2**64 - 1, "add", 5) == (15, 0) and two.used == 8 and two.call(
 print(fails(w.Stopped, lambda: in_slices(100, "spin", fuel=1000), ending="spent", used=1000))
 
 # a call that is stopped leaves what a call with just that fuel leaves
-total = two.call("add", 0)
+total = number(two, "add", 0)
 call = two.begin("spin")
 assert (call.run_for(70), call.stop(), two.used) == (False, 70, 70)
-stopped = two.call("add", 0)
+stopped = number(two, "add", 0)
 print(fails(w.Stopped, call.result, ending="spent", used=70), fails(w.Error, call.stop, status=w.KIND))
 print(fails(w.Stopped, lambda: two.call("spin", fuel=70), ending="spent", used=70))
-spent = two.call("add", 0)
+spent = number(two, "add", 0)
 assert spent - stopped == stopped - total > 0
 assert two.begin("add", 9).stop() == 0 and two.call("add", 0) == spent
 # a call and its first slice
@@ -95,15 +99,16 @@ print(fails(w.Error, lambda: two.begin("absent"), status=w.NONE))
 print(fails(w.Error, lambda: two.begin("add", 1, depth=129), status=w.RANGE))
 print(fails(w.Error, lambda: in_slices(0, "add", 1), status=w.RANGE))
 two.close()
-before = len(it.memory)
+before, held = len(it.memory), it.held
 assert it.call("grow", 1) == before // 65536 and len(it.memory) == before + 65536
+assert it.held == held + 65536 and module.held == len(data)
 start = w.Module(open(f"{folder}/start.wasm", "rb").read())
 with warnings.catch_warnings(record=True) as told:
     warnings.simplefilter("always")
     module.instance().close()
     assert not told
     its = start.instance()
-    assert [(it.category, it.filename) for it in told] == [(w.InertImports, __file__)] and start.shape().imports == 1, told
+    assert [(each.category, each.filename) for each in told] == [(w.InertImports, __file__)] and start.shape().imports == 1, told
     assert str(told[0].message).startswith('the module imports 1 function of "uv", which return -1 in an instance: '), told[0]
 with its:
     assert its.call("global") == 7 and its.call("bump", 100) is None and its.call("global") == 107 and its.call("asks") == -1

@@ -202,22 +202,23 @@ static wasmloop_handle instance_of(const char *name) {
     return it;
 }
 
+/* the arguments of each call, of which it takes the first ones */
+static const uint64_t given[3] = { 3, 0, 0 };
+
 static struct left called(wasmloop_handle *it, const char *name, size_t count, const wasmloop_call_limits *limits) {
-    static const uint64_t args[1] = { 3 };
     struct left left;
     memset(&left, 0, sizeof left);
-    IS(wasmloop_call(it, name, args, count, limits, &left.ended), WASMLOOP_OK);
+    IS(wasmloop_call(it, name, given, count, limits, &left.ended), WASMLOOP_OK);
     look(it, &left);
     return left;
 }
 
 static struct left called_for(wasmloop_handle *it, const char *name, size_t count, const wasmloop_call_limits *limits, uint64_t units) {
-    static const uint64_t args[1] = { 3 };
     struct left left;
     uint32_t over = 7;
     uint64_t used = 0;
     memset(&left, 0, sizeof left);
-    IS(wasmloop_call_begin(it, name, args, count, limits), WASMLOOP_OK);
+    IS(wasmloop_call_begin(it, name, given, count, limits), WASMLOOP_OK);
     while (IS(wasmloop_call_run_for(it, units, &over, &left.ended), WASMLOOP_OK), over == 0) used += units;
     IS(over, 1);
     IS(used <= left.ended.used && left.ended.used - used <= units, 1);
@@ -227,16 +228,15 @@ static struct left called_for(wasmloop_handle *it, const char *name, size_t coun
 }
 
 static struct left called_at_first(wasmloop_handle *it, uint64_t number, size_t count, const wasmloop_call_limits *limits, uint64_t units) {
-    static const uint64_t args[1] = { 3 };
     struct left left;
     uint32_t over = 7;
     uint64_t used = 0;
     memset(&left, 0, sizeof left);
-    IS(wasmloop_call_for(it, number, args, count, limits, units, &over, &left.ended), WASMLOOP_OK);
+    IS(wasmloop_call_for(it, number, given, count, limits, units, &over, &left.ended), WASMLOOP_OK);
     while (over == 0) {
         used += units;
         IS(left.ended.used, 0); /* (nothing is written of a call that is paused) */
-        IS(wasmloop_call_for(it, number, args, count, limits, units, &over, &left.ended), WASMLOOP_KIND);
+        IS(wasmloop_call_for(it, number, given, count, limits, units, &over, &left.ended), WASMLOOP_KIND);
         IS(wasmloop_call_run_for(it, units, &over, &left.ended), WASMLOOP_OK);
     }
     IS(over, 1);
@@ -489,6 +489,7 @@ int main(int argc, char **argv) {
         for (unsigned slices = 0; slices < 20; slices++) call_is_ended(files[k], 1 + 3 * slices, slices);
     }
     calls_agree("countdown.wasm", "uv_main", 0, 20000, 64);
+    calls_agree("digest.wasm", "uv_after_work", 3, 20000, 64);
     paused();
     dropped();
     copies_end_slices();

@@ -1,6 +1,6 @@
 /* A turn in slices uses its units: a call that leaves the turn in progress has used all of them, where each 64 bytes that calls of "uv" copied count
- * as one (the next callback may have begun with less than a unit's worth left over). So the fuel of the same turn in one piece bounds the calls. No
- * clause says it: with a body that gives each call one unit, this test alone fails.
+ * as one (the next callback may have begun with less than a unit's worth left over). So the fuel of the same turn in one piece bounds the calls. The
+ * clauses say it of a call that leaves a callback paused; of one that ends between two steps tests alone do.
  *
  * usage: turn_units EXAMPLES */
 #include "checks.h"

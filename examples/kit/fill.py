@@ -10,17 +10,23 @@ and is linked with --export=NAME --export=NAME_length --export=NAME_room. More b
 
 usage: fill.py GUEST.wasm NAME OUT.wasm < BYTES
 """
+
+from __future__ import annotations
+
 import pathlib
 import sys
+from typing import Optional, Tuple
 
 sys.path.insert(0, str(pathlib.Path(__file__).resolve().parents[2] / "capi/python"))
 from wasmloop.lowering.binary import END, I32, I32_CONST, Reader, Refused, constant, sized, u  # noqa: E402
 
 GLOBALS, EXPORTS, CODE, DATA = 6, 7, 10, 11
 HEADER, A_GLOBAL = 8, 3
+# its address, where that is a constant, and its bytes
+Segment = Tuple[Optional[int], bytes]
 
 
-def sections(data):
+def sections(data: bytes) -> list[tuple[int, bytes]]:
     """The sections of a module, each as its id and what it holds."""
     reader, found = Reader(data, HEADER), []
     while reader.at < reader.end:
@@ -29,7 +35,7 @@ def sections(data):
     return found
 
 
-def offset(reader):
+def offset(reader: Reader) -> int | None:
     """The number of an expression that is one constant, or None."""
     operation, number = reader.byte(), reader.s(64)
     if reader.byte() != END:
@@ -37,11 +43,11 @@ def offset(reader):
     return number if operation == I32_CONST else None
 
 
-def global_values(body):
+def global_values(body: bytes) -> list[int | None]:
     """Of each global the i32 that it begins with, or None."""
     reader = Reader(body)
 
-    def value():
+    def value() -> int | None:
         kind, _ = reader.byte(), reader.byte()
         number = offset(reader)
         return number if kind == I32 else None
@@ -49,17 +55,17 @@ def global_values(body):
     return reader.vec(value)
 
 
-def exported_globals(body):
+def exported_globals(body: bytes) -> dict[str, int]:
     reader = Reader(body)
     found = [(reader.text(), reader.byte(), reader.u()) for _ in range(reader.u())]
     return {name: index for name, kind, index in found if kind == A_GLOBAL}
 
 
-def segments(body):
+def segments(body: bytes) -> list[Segment]:
     """Each data segment: its address, None where a global has it, and its bytes."""
     reader = Reader(body)
 
-    def segment():
+    def segment() -> Segment:
         if reader.u() != 0:
             raise Refused("a segment in a newer form: let lower.py rewrite the module first")
         return offset(reader), reader.name()
@@ -67,7 +73,7 @@ def segments(body):
     return reader.vec(segment)
 
 
-def number_at(held, address):
+def number_at(held: list[Segment], address: int) -> int:
     """The four bytes at an address as a number, which are 0 where no segment has them."""
     for start, data in held:
         if start is not None and start <= address and address + 4 <= start + len(data):
@@ -75,20 +81,20 @@ def number_at(held, address):
     return 0
 
 
-def addresses(parts):
+def addresses(parts: dict[int, bytes]) -> dict[str, int]:
     """Where each exported global points to that is a constant."""
     values = global_values(parts[GLOBALS]) if GLOBALS in parts else []
     exports = exported_globals(parts[EXPORTS]) if EXPORTS in parts else {}
-    return {name: values[index] for name, index in exports.items() if index < len(values) and values[index] is not None}
+    return {name: value for name, index in exports.items() if index < len(values) and (value := values[index]) is not None}
 
 
-def with_segments(found, more, count):
+def with_segments(found: list[tuple[int, bytes]], more: bytes, count: int) -> list[tuple[int, bytes]]:
     """The sections with these segments, so many, behind those of data that there are."""
     if not any(kind == DATA for kind, _ in found):
         place = 1 + max(at for at, (kind, _) in enumerate(found) if 0 < kind <= CODE)
         return [*found[:place], (DATA, u(count) + more), *found[place:]]
 
-    def longer(body):
+    def longer(body: bytes) -> bytes:
         reader = Reader(body)
         before = reader.u()
         return u(before + count) + body[reader.at:] + more
@@ -96,7 +102,7 @@ def with_segments(found, more, count):
     return [(kind, longer(body) if kind == DATA else body) for kind, body in found]
 
 
-def fill(module, name, given):
+def fill(module: bytes, name: str, given: bytes) -> bytes:
     """The module with these bytes laid in under this name."""
     found = sections(module)
     parts = dict(found)
@@ -112,7 +118,7 @@ def fill(module, name, given):
     return module[:HEADER] + b"".join(bytes([kind]) + sized(body) for kind, body in with_segments(found, more, len(laid)))
 
 
-def main(guest, name, target):
+def main(guest: str, name: str, target: str) -> None:
     try:
         pathlib.Path(target).write_bytes(fill(pathlib.Path(guest).read_bytes(), name, sys.stdin.buffer.read()))
     except Refused as why:
@@ -123,5 +129,5 @@ def main(guest, name, target):
 
 if __name__ == "__main__":
     if len(sys.argv) != 4:
-        sys.exit(__doc__.strip())
+        sys.exit((__doc__ or "").strip())
     main(*sys.argv[1:])

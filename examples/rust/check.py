@@ -4,6 +4,9 @@
 What `deflate` packs has to be what its native build packs, and unpacked by Python's zlib the file; what zlib packs it has
 to unpack. `means` has to say what its native build says.
 """
+
+from __future__ import annotations
+
 import pathlib
 import subprocess
 import sys
@@ -15,21 +18,21 @@ NUMBERS = (b"1 2.5 -0.1 3e-320 123456789.125 0.333333333333333333 16777217 -1e-4
 
 
 class Guest:
-    def __init__(self, program, folder, name):
+    def __init__(self, program: str, folder: str, name: str) -> None:
         self.words = [program, "work", f"{folder}/{name}.wasm"]
         self.native = f"{folder}/{name}.native"
 
-    def answers(self, operation, data):
+    def answers(self, operation: int, data: bytes) -> tuple[str, str]:
         """By the program, and by the native build."""
         words = [*self.words, str(operation), data.hex(), "--fuel", "1000000000"]
         return run(words), run([self.native, str(operation)], data)
 
 
-def run(words, given=None):
+def run(words: list[str], given: bytes | None = None) -> str:
     return subprocess.run(words, input=given, stdout=subprocess.PIPE, check=True).stdout.decode().strip()
 
 
-def deflates(guest, data, level):
+def deflates(guest: Guest, data: bytes, level: int) -> int | None:
     """How many bytes `data` is packed into; none where something is wrong."""
     told, expected = guest.answers(level, data)
     packed = bytes.fromhex(told.split()[-1])
@@ -39,7 +42,7 @@ def deflates(guest, data, level):
     return len(packed) if right else None
 
 
-def main(program, folder, *files):
+def main(program: str, folder: str, *files: str) -> bool:
     deflate, means = Guest(program, folder, "deflate"), Guest(program, folder, "means")
     wrong = 0
     for file in files:

@@ -6,11 +6,15 @@ usage: PYTHONPATH=capi/python WASMLOOP_LIBRARY=LIBRARY test.py FOLDER [COUNT [SE
 
 FOLDER is what build.sh wrote. One in twenty of the COUNT requests (default: 400) is in SQL, the others are in Lua. Ends with 1 if a reply differs.
 """
+
+from __future__ import annotations
+
 import os
 import pathlib
 import random
 import sys
 from concurrent.futures import ThreadPoolExecutor
+from typing import Callable, List, Tuple, Union
 
 from wasmloop import Module
 
@@ -18,13 +22,13 @@ HERE = pathlib.Path(__file__).resolve().parent
 FUEL, DEPTH, THREADS = 1 << 32, 128, os.cpu_count() or 1
 
 
-def cart(rng):
+def cart(rng: random.Random) -> str:
     """The text of a cart, now and then with what is no article."""
     return " ".join(f"{rng.choice(['sku', 'sku', 'sku', 'no'])}{rng.randrange(1, 520)}={rng.randrange(30)}" for _ in range(rng.randrange(9)))
 
 
-def in_lua(rng):
-    return rng.choice([
+def in_lua(rng: random.Random) -> str:
+    programs: List[Callable[[], str]] = [
         lambda: f'print(cart("{cart(rng)}"))',
         lambda: f'local s = 0 for i = 1, {rng.randrange(50)} do s = s + rates["sku" .. i].price end print(s)',
         lambda: f'rates.sku1.price = {rng.randrange(999)}; rules[1] = nil; print(pcall(cart, "sku1=2 {cart(rng)}"))',
@@ -33,10 +37,11 @@ def in_lua(rng):
         lambda: f'print(string.format("%5.2f|%s|%x", {rng.random() * 100}, ("x"):rep({rng.randrange(40)}), {rng.randrange(1 << 40)}))',
         lambda: f'error("article {rng.randrange(99)} is sold out", 0)',
         lambda: f'print(select({rng.randrange(1, 9)}, pcall(error, {{ code = 7 }})) and #rules, math.floor({rng.random() * 1e6}))',
-    ])()
+    ]
+    return rng.choice(programs)()
 
 
-def in_sql(rng):
+def in_sql(rng: random.Random) -> str:
     some = rng.randrange(1, 1010)
     return rng.choice([
         f"select * from product where id between {some} and {some + rng.randrange(9)};",
@@ -54,18 +59,18 @@ def in_sql(rng):
 class Pair:
     """A guest, frozen and not."""
 
-    def __init__(self, folder, names, prelude, request):
+    def __init__(self, folder: pathlib.Path, names: Tuple[str, str], prelude: str, request: Callable[[random.Random], str]) -> None:
         self.cold, self.warm = (Module((folder / f"{it}.wasm").read_bytes()) for it in names)
         self.prelude, self.request = (HERE / prelude).read_bytes(), request
 
-    def compare(self, seed):
+    def compare(self, seed: int) -> Union[Tuple[int, int], str]:
         """The units of both, or what is wrong."""
         request = self.request(random.Random(seed)).encode()
         cold, warm = (module.work(0, data, FUEL, DEPTH) for module, data in ((self.cold, self.prelude + b"\n" + request), (self.warm, request)))
         return (cold.used, warm.used) if cold[:3] == warm[:3] else f"{request.decode()}: {cold}, frozen {warm}"
 
 
-def main(folder, count=400, seed=1):
+def main(folder: pathlib.Path, count: int = 400, seed: int = 1) -> int:
     wrong = 0
     for name, pair, share in (("Lua", Pair(folder, ("lua", "shop"), "prelude.lua", in_lua), count - count // 20),
                               ("SQLite", Pair(folder, ("sqlite", "stock"), "schema.sql", in_sql), count // 20)):

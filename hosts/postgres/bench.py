@@ -1,5 +1,8 @@
 """What a row costs beside plpgsql and plperl: bench.py SOCKET, by test.sh bench. The least of seven turns of the backend's processor time, so a machine that
 does other work measures too."""
+
+from __future__ import annotations
+
 import pathlib
 import re
 import subprocess
@@ -32,12 +35,12 @@ WHAT = [("base", "x", ROWS), ("wasmloop", "score(x)", ROWS), ("plpgsql", "pl_sco
         ("plperl", "length(pe_slug(s))", ROWS)]
 
 
-def psql(script):
+def psql(script: str) -> str:
     words = ["psql", "-X", "-q", "-A", "-t", "-h", sys.argv[1], "-U", "postgres", "postgres"]
     return subprocess.run(words, input=script, capture_output=True, text=True, check=True).stderr
 
 
-def main():
+def main() -> None:
     psql(SETUP)
     script = "SET max_parallel_workers_per_gather = 0;\n" + "".join(f"SELECT {what} FROM b LIMIT 1;\n" for _, what, _ in WHAT)      # each language is loaded
     script += "SET client_min_messages = log;\nSET log_statement_stats = on;\n"

@@ -1,16 +1,22 @@
 """Whether timeouts and cancels hold within 10 ms: clock.py SOCKET, by test.sh. It speaks PostgreSQL's protocol, so that no client's start counts. The
 machine may be busy, so one of forty tries has to, and all have a wide bound. Ends with 1 if one is late."""
+
+from __future__ import annotations
+
+import functools
 import socket
+import statistics
 import struct
 import sys
 import threading
 import time
+from typing import Callable
 
 LEAST, TRIES, LATE, MOST = 9, 40, 10, 1000
 
 
 class Session:
-    def __init__(self):
+    def __init__(self) -> None:
         words = b"user\0postgres\0database\0postgres\0\0"
         self.server, self.state = socket.socket(socket.AF_UNIX), ""
         self.server.connect(sys.argv[1] + "/.s.PGSQL.5432")
@@ -18,7 +24,7 @@ class Session:
         self.server.sendall(struct.pack("!ii", len(words) + 8, 196608) + words)
         self.ready()
 
-    def ready(self):
+    def ready(self) -> None:
         while True:
             kind, size = struct.unpack("!ci", self.file.read(5))
             body = self.file.read(size - 4)
@@ -29,7 +35,7 @@ class Session:
             if kind == b"Z":
                 return
 
-    def ask(self, text):
+    def ask(self, text: str) -> tuple[str, float]:
         """Its SQLSTATE, if it fails, and how long it takes, in milliseconds."""
         self.state, words, began = "", text.encode() + b"\0", time.perf_counter()
         self.server.sendall(b"Q" + struct.pack("!i", len(words) + 4) + words)
@@ -37,7 +43,7 @@ class Session:
         return self.state, (time.perf_counter() - began) * 1000
 
 
-def timed_out(session, setting, what, state):
+def timed_out(session: Session, setting: str, what: str, state: str) -> float | None:
     """How late a timeout of 50 ms is."""
     session.ask(f"SET {setting} = 50")
     said, took = session.ask(what)
@@ -45,11 +51,11 @@ def timed_out(session, setting, what, state):
     return took - 50 if said == state and took >= 49 else None
 
 
-def cancelled(session, other, what):
+def cancelled(session: Session, other: Session, what: str) -> float | None:
     """How late a cancel by another session is, from its command on."""
     began = []
 
-    def act():
+    def act() -> None:
         began.append(time.perf_counter())
         other.ask(f"SELECT pg_cancel_backend({session.process})")
     timer = threading.Timer(0.05, act)
@@ -60,28 +66,31 @@ def cancelled(session, other, what):
     return took if said == "57014" and began else None
 
 
-def main():
+def main() -> int:
     session, other = Session(), Session()
     session.ask("SET wasmloop.fuel = 2000000000")
-    tests = {f"{name}, {how}": act for name in ("spin", "grow", "copies", "more") for how, act in (
-        ("statement_timeout", lambda name=name: timed_out(session, "statement_timeout", calls(name), "57014")),
-        ("cancel", lambda name=name: cancelled(session, other, calls(name))))}
-    tests["lock_timeout"] = lambda: timed_out(session, "lock_timeout", "SELECT score(5)", "55P03")
+    tests: dict[str, Callable[[], float | None]] = {}
+    for name in ("spin", "grow", "copies", "more"):
+        tests[f"{name}, statement_timeout"] = functools.partial(timed_out, session, "statement_timeout", calls(name), "57014")
+        tests[f"{name}, cancel"] = functools.partial(cancelled, session, other, calls(name))
+    tests["lock_timeout"] = functools.partial(timed_out, session, "lock_timeout", "SELECT score(5)", "55P03")
     late = 0
     for name, act in tests.items():
         other.ask("BEGIN; LOCK TABLE wasmloop.module" if name == "lock_timeout" else "ROLLBACK")
-        took = [act()]
-        while None not in took and len(took) < (LEAST if min(took) <= LATE else TRIES):
-            took.append(act())
+        took: list[float] = []
+        while (more := act()) is not None:
+            took.append(more)
+            if len(took) >= (LEAST if min(took) <= LATE else TRIES):
+                break
         other.ask("ROLLBACK")
-        good = None not in took and min(took) <= LATE and max(took) <= MOST
+        good = more is not None and min(took) <= LATE and max(took) <= MOST
         late += not good
-        told = f"least {min(took):.1f}, median {sorted(took)[len(took) // 2]:.1f}, most {max(took):.1f} ms late" if None not in took else str(took)
+        told = f"least {min(took):.1f}, median {statistics.median_high(took):.1f}, most {max(took):.1f} ms late" if more is not None else f"none, behind {took}"
         print(f"{name}: {told} {'ok' if good else 'FAILED'}")
     return int(late > 0)
 
 
-def calls(name):
+def calls(name: str) -> str:
     return "SELECT count(*) FROM more()" if name == "more" else f"SELECT {name}(1)"
 
 

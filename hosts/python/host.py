@@ -5,10 +5,13 @@ usage: host.py FILE LOOPS [WORKERS]
 The clock jumps to the next timer, and the lines are those of `wasmloop serve`.
 """
 
-import sys
-from concurrent.futures import ThreadPoolExecutor
+from __future__ import annotations
 
-from wasmloop import ENTERED, FAILED, FOREVER, OVER, RAN, Loop, Module, Refused
+import sys
+from concurrent.futures import Future, ThreadPoolExecutor
+from typing import List, Optional, Tuple
+
+from wasmloop import ENTERED, FAILED, FOREVER, OVER, RAN, Job, Loop, Module, Refused
 
 MOST = 100_000
 
@@ -16,22 +19,25 @@ MOST = 100_000
 class Guest:
     """A loop, with what it has put out and the jobs that are under way."""
 
-    def __init__(self, module, number):
+    def __init__(self, module: Module, number: int) -> None:
         self.loop, self.number = Loop(module, number), number
-        self.emits, self.ran, self.jobs, self.ending = [], 0, [], None
+        self.emits: List[int] = []
+        self.ran = 0
+        self.jobs: List[Tuple[Job, Future[Job]]] = []
+        self.ending: Optional[str] = None
 
-    def hand_out(self, pool):
+    def hand_out(self, pool: ThreadPoolExecutor) -> None:
         while job := self.loop.next_job():
             if self.loop.start(job):
                 self.jobs.append((job, pool.submit(job.run)))
 
-    def accept(self):
+    def accept(self) -> None:
         """Waits for the reply of the oldest job, and brings it back."""
         job, running = self.jobs.pop(0)
         running.result()
         self.loop.accept(job)
 
-    def steps(self):
+    def steps(self) -> Optional[int]:
         """Goes up to the next timers phase, and says for how long there is nothing to do, or None where the loop has ended."""
         while True:
             turned = self.loop.turn(MOST - self.ran)
@@ -50,11 +56,11 @@ class Guest:
             if self.ending:
                 return None
 
-    def turn(self, pool):
+    def turn(self, pool: ThreadPoolExecutor) -> None:
         """One turn, up to the next timers phase or the loop's end."""
         self.hand_out(pool)
         wait = self.steps()
-        if self.ending:
+        if wait is None:
             return
         self.hand_out(pool)
         if wait == 0:
@@ -67,9 +73,9 @@ class Guest:
             self.ending = "waiting"
 
 
-def main(file, loops, workers=3):
-    with open(file, "rb") as it:
-        data = it.read()
+def main(file: str, loops: int, workers: int = 3) -> int:
+    with open(file, "rb") as opened:
+        data = opened.read()
     try:
         module = Module(data)
     except Refused as refused:

@@ -5,17 +5,20 @@ usage: host_asyncio.py FILE [--virtual]
 Its clock is the time that has passed; with --virtual it jumps to the next timer, as that of `wasmloop serve` does.
 """
 
+from __future__ import annotations
+
 import asyncio
 import sys
 import time
+from typing import List, Optional, Set, Tuple
 
-from wasmloop import ENTERED, FOREVER, OVER, RAN, Loop, Module
+from wasmloop import ENTERED, FOREVER, OVER, RAN, Job, Loop, Module
 
 MOST = 100_000
 UNITS = 3_000                                           # of a slice: other tasks run between two of them
 
 
-async def turn(loop, emits, most):
+async def turn(loop: Loop, emits: List[int], most: int) -> Tuple[int, Optional[str]]:
     """Steps up to the next timers phase: how many callbacks ran, at most `most`, and how the loop ended, if it did."""
     ran = 0
     while ran < most:
@@ -34,8 +37,9 @@ async def turn(loop, emits, most):
     return ran, "limit"
 
 
-async def serve(loop, emits, jumps):
-    began, jobs, seen = time.monotonic(), set(), 0
+async def serve(loop: Loop, emits: List[int], jumps: bool) -> str:
+    began, seen = time.monotonic(), 0
+    jobs: Set[asyncio.Task[Job]] = set()
     while True:
         now = loop.clock(0 if jumps else int((time.monotonic() - began) * 1000))
         ran, ending = await turn(loop, emits, MOST - seen)
@@ -52,15 +56,15 @@ async def serve(loop, emits, jumps):
             loop.clock(now + wait)
             wait = 0
         rest = asyncio.create_task(asyncio.sleep(min(wait, 2**30) / 1000))
-        done, _ = await asyncio.wait({rest, *jobs}, return_when=asyncio.FIRST_COMPLETED)
+        await asyncio.wait({rest, *jobs}, return_when=asyncio.FIRST_COMPLETED)
         rest.cancel()
-        for task in done - {rest}:
+        for task in [it for it in jobs if it.done()]:
             jobs.remove(task)
             loop.accept(task.result())
 
 
-def main(file, *flags):
-    emits = []
+def main(file: str, *flags: str) -> int:
+    emits: List[int] = []
     with open(file, "rb") as it:
         module = Module(it.read())
     ending = asyncio.run(serve(Loop(module), emits, "--virtual" in flags))

@@ -13,21 +13,26 @@ With a file of 16 MB (256 requests of 9 million units) 1, 2 and 4 processes ran 
 alone, and 4 with one killed half way at 3.06 times (`chrt -f 10`, the least of three rounds on 4 busy processors).
 """
 
+from __future__ import annotations
+
 import argparse
 import hashlib
 import os
 import signal
 import sys
 import time
+from typing import Any, Callable, List, Set, Tuple
 
-from distributed import Client, LocalCluster, as_completed
+from distributed import Client, LocalCluster, as_completed      # type: ignore[import]  # (it has no types)
 
-from wasmloop import work
+from wasmloop import Reply, work
 
 BLOCK, FUEL, MOST_TASKS = 65_536, 10**9, 64
+# the replies of a task, and the process that computed them
+Part = Tuple[List[Reply], int]
 
 
-def arguments():
+def arguments() -> argparse.Namespace:
     words = argparse.ArgumentParser(description=__doc__, formatter_class=argparse.RawDescriptionHelpFormatter)
     words.add_argument("module", metavar="MODULE")
     words.add_argument("file", metavar="FILE")
@@ -37,25 +42,25 @@ def arguments():
     return words.parse_intermixed_args()
 
 
-def replies_to(module, file, first, count):
+def replies_to(module: bytes, file: str, first: int, count: int) -> Part:
     """The replies to some blocks of a file, from the first of them on, and which process computed them."""
     with open(file, "rb") as blocks:
         blocks.seek(first * BLOCK)
         return [work(module, 0, blocks.read(BLOCK), FUEL) for _ in range(count)], os.getpid()
 
 
-def tasks_of(blocks):
+def tasks_of(blocks: int) -> List[Tuple[int, int]]:
     """The first block of each task and how many blocks it has. A task is many blocks of a large file, so that the work counts and not the
     scheduler."""
     each = -(-blocks // MOST_TASKS)
     return [(first, min(each, blocks - first)) for first in range(0, blocks, each)]
 
 
-def gathered(client, futures, workers):
-    return client.gather(futures)
+def gathered(client: Client, futures: List[Any], workers: List[str]) -> List[Part]:
+    return list(client.gather(futures))
 
 
-def with_a_kill(client, futures, workers):
+def with_a_kill(client: Client, futures: List[Any], workers: List[str]) -> List[Part]:
     """Kills a process when half of the tasks are done, and then waits for all."""
     ((address, victim),) = client.run(os.getpid, workers=workers[:1]).items()
     for done, _ in enumerate(as_completed(futures)):
@@ -63,14 +68,14 @@ def with_a_kill(client, futures, workers):
             os.kill(victim, signal.SIGKILL)
             left = sum(not it.done() for it in futures)
             break
-    parts = client.gather(futures)
+    parts: List[Part] = client.gather(futures)
     if not left or address in client.scheduler_info()["workers"]:
         sys.exit(f"process {victim} was not killed half way: {left} tasks were left")
     return parts
 
 
 class Bench:
-    def __init__(self, client, module, file):
+    def __init__(self, client: Client, module: str, file: str) -> None:
         with open(module, "rb") as it:
             self.module = it.read()
         self.client, self.file, self.workers = client, os.path.abspath(file), list(client.scheduler_info()["workers"])
@@ -81,10 +86,10 @@ class Bench:
         client.run(work, self.module, 0)
         self.lent = client.scatter(self.module, broadcast=True)
 
-    def alone(self):
+    def alone(self) -> List[Reply]:
         return replies_to(self.module, self.file, 0, self.blocks)[0]
 
-    def spread(self, processes, gather=gathered):
+    def spread(self, processes: int, gather: Callable[[Client, List[Any], List[str]], List[Part]] = gathered) -> List[Reply]:
         workers = self.workers[:processes]
         first, count = zip(*tasks_of(self.blocks))
         every = [self.lent] * len(first), [self.file] * len(first)
@@ -98,21 +103,23 @@ class Bench:
 class Run:
     """What was computed in some way, and how long it took, in seconds."""
 
-    def __init__(self, name, compute, *words):
-        self.name, self.compute, self.words, self.digests, self.took = name, compute, words, set(), []
+    def __init__(self, name: str, compute: Callable[..., List[Reply]], *words: object) -> None:
+        self.name, self.compute, self.words = name, compute, words
+        self.digests: Set[str] = set()
+        self.took: List[float] = []
 
-    def again(self):
+    def again(self) -> None:
         began = time.monotonic()
         replies = self.compute(*self.words)
         self.took.append(time.monotonic() - began)
         self.digests.add(hashlib.sha256(repr(replies).encode()).hexdigest()[:16])
 
-    def tell(self, alone):
+    def tell(self, alone: Run) -> None:
         least, most = min(self.took), max(self.took)
         print(f"{self.name}: {' '.join(self.digests)} in {least:.2f} to {most:.2f} s, {min(alone.took) / least:.2f} times as fast", flush=True)
 
 
-def measure(bench, words):
+def measure(bench: Bench, words: argparse.Namespace) -> Set[str]:
     """This process alone and each number of processes in turns, and then the killed one."""
     alone, last = Run("this process alone", bench.alone), words.processes[-1]
     runs = [alone, *(Run(f"processes: {it}", bench.spread, it) for it in words.processes)]
@@ -126,7 +133,7 @@ def measure(bench, words):
     return set().union(*(it.digests for it in runs))
 
 
-def main():
+def main() -> None:
     words = arguments()
     load = os.getloadavg()[0]
     settings = {"threads_per_worker": 1, "dashboard_address": None, "silence_logs": 50}

@@ -1,7 +1,11 @@
 """Tests of wasmloop.served: test.py GUESTS EXAMPLES"""
+
+from __future__ import annotations
+
 import asyncio
 import sys
 import time
+from typing import Any, List, Set, Tuple
 
 from wasmloop import Error, Late, Module, Stopped
 from wasmloop.served import Closed, Failed, Served
@@ -9,7 +13,7 @@ from wasmloop.served import Closed, Failed, Served
 guests, examples = sys.argv[1:]
 
 
-def read(path):
+def read(path: str) -> Module:
     with open(path, "rb") as file:
         return Module(file.read())
 
@@ -18,7 +22,7 @@ echo = read(f"{guests}/echo.wasm")
 spin = {"fuel": 10**12, "work_fuel": 10**12}
 
 
-async def sends_and_requests():
+async def sends_and_requests() -> None:
     async with Served(echo) as served:
         got = served.emits()
         await asyncio.sleep(0.05)                       # it sleeps for ever now
@@ -28,7 +32,7 @@ async def sends_and_requests():
         assert sorted([await got.__anext__() for _ in numbers]) == [number << 32 | k for k, number in enumerate(numbers)]
 
 
-async def wrong_words():
+async def wrong_words() -> None:
     async with Served(echo) as served:
         for number in (-1, 16):
             try:
@@ -37,7 +41,8 @@ async def wrong_words():
             except ValueError:
                 pass
         assert await served.request(0, b"x" * 65537) == -22
-        for op, data in ((2**40, b""), (0, "text")):
+        wrong: List[Tuple[int, Any]] = [(2**40, b""), (0, "text")]
+        for op, data in wrong:
             try:
                 await served.request(op, data)
                 raise AssertionError(op)
@@ -46,7 +51,7 @@ async def wrong_words():
         assert await served.request(0, b"") > 0
 
 
-async def failing():
+async def failing() -> None:
     async with Served(echo) as served:
         served.send(1)
         try:
@@ -62,7 +67,7 @@ async def failing():
             pass
 
 
-async def failing_beside_work():
+async def failing_beside_work() -> None:
     async with Served(echo, **spin) as served:
         assert await served.request(1) > 0
         await asyncio.sleep(0.02)                       # it runs on a thread
@@ -75,7 +80,7 @@ async def failing_beside_work():
             pass
 
 
-async def flood():
+async def flood() -> None:
     async with Served(echo) as served:
         served.send(3)
         await asyncio.sleep(0.3)
@@ -85,7 +90,7 @@ async def flood():
             assert await got.__anext__() == 0
 
 
-async def waste():
+async def waste() -> None:
     async with Served(echo, **spin) as served:
         served.send(4)                                  # it queues endless work, and cancels it, for ever
         await asyncio.sleep(0.3)
@@ -93,7 +98,7 @@ async def waste():
         assert await asyncio.get_running_loop().run_in_executor(None, time.monotonic)
 
 
-async def endless():
+async def endless() -> None:
     began, beats = time.monotonic(), 0
     async with Served(echo, **spin) as served:
         assert await served.request(1) > 0
@@ -111,7 +116,7 @@ async def endless():
         pass
 
 
-async def cancelled():
+async def cancelled() -> None:
     async with Served(echo) as served:
         for _ in range(50):
             task = asyncio.create_task(served.request(0, b"x"))
@@ -120,13 +125,13 @@ async def cancelled():
         assert await asyncio.wait_for(served.request(0, b"abc"), 5) > 0
 
 
-async def ended():
+async def ended() -> None:
     for name in ("ticker", "digest", "chatter"):
         async with Served(read(f"{examples}/{name}.wasm"), fuel=10**8, work_fuel=10**8) as served:
             assert [value async for value in served.emits()], name
 
 
-async def hostile():
+async def hostile() -> None:
     rules = read(f"{guests}/rules.wasm")
     for op, wanted in ((1, "spent"), (2, "trap"), (4, "spent"), (5, "spent"), (6, "depth")):
         assert rules.work(op, b"x").outcome == wanted, op
@@ -144,8 +149,8 @@ async def hostile():
         assert it.call("running", 4) == 7               # the instance and its state live on
 
 
-async def many():
-    async def one(k):
+async def many() -> None:
+    async def one(k: int) -> Set[int]:
         async with Served(echo) as served:
             got = served.emits()
             served.send(0)

@@ -22,6 +22,9 @@ import tempfile
 from pathlib import Path
 from typing import Dict, Iterator, List, NamedTuple
 
+sys.path.insert(0, str(Path(__file__).resolve().parents[1] / "spec"))
+from wasm import name as sized, vec  # noqa: E402
+
 LIST = Path(__file__).with_name("expected.txt")
 EXAMPLES = Path(__file__).resolve().parents[2] / "examples"
 FEW, MANY, EXACT = 20_000, 120_000, 0.01
@@ -42,19 +45,15 @@ class Count(NamedTuple):
         return f"{self.instructions:.2f} {self.dispatches:.2f}"
 
 
-def leb(n: int) -> bytes:
-    return bytes([n]) if n < 128 else bytes([n & 127 | 128]) + leb(n >> 7)
-
-
 def section(number: int, contents: bytes) -> bytes:
-    return bytes([number]) + leb(len(contents)) + contents
+    return bytes([number]) + sized(contents)
 
 
 def module(*bodies: bytes) -> bytes:
     """A module of functions with two locals each, of which the first is `f`, and a memory."""
     whole = [b"\1\2\x7f" + body for body in bodies]
-    return (b"\0asm\1\0\0\0" + section(1, b"\1\x60\0\0") + section(3, leb(len(bodies)) + bytes(len(bodies))) + section(5, b"\1\0\1")
-            + section(7, b"\1\1f\0\0") + section(10, leb(len(bodies)) + b"".join(leb(len(it)) + it for it in whole)))
+    return (b"\0asm\1\0\0\0" + section(1, b"\1\x60\0\0") + section(3, sized(bytes(len(bodies)))) + section(5, b"\1\0\1")
+            + section(7, b"\1\1f\0\0") + section(10, vec([sized(it) for it in whole])))
 
 
 def forever(body: bytes) -> bytes:

@@ -17,6 +17,9 @@ import sys
 import tempfile
 from typing import Callable, List, Sequence, Tuple, Union
 
+sys.path.insert(0, str(pathlib.Path(__file__).resolve().parents[1] / "spec"))
+from wasm import name as sized, u, vec  # noqa: E402
+
 SIZE = 1024 * 1024
 SECONDS, MEMORY = 1.0, 64 * 1024  # of a check; kibibytes
 STACK = 128  # kibibytes
@@ -24,26 +27,17 @@ Content = Union[str, Callable[[], bytes]]  # a file, or what makes one
 OPENING = b"\0asm\1\0\0\0"
 
 
-def leb(n: int) -> bytes:
-    return bytes([n]) if n < 128 else bytes([n & 127 | 128]) + leb(n >> 7)
-
-
-def vec(items: Sequence[bytes]) -> bytes:
-    return leb(len(items)) + b"".join(items)
-
-
 def section(number: int, contents: bytes) -> bytes:
-    return bytes([number]) + leb(len(contents)) + contents
+    return bytes([number]) + sized(contents)
 
 
 def body(code: bytes, locals: bytes = b"\0") -> bytes:
-    whole = locals + code + b"\x0b"
-    return leb(len(whole)) + whole
+    return sized(locals + code + b"\x0b")
 
 
 def module(bodies: Sequence[bytes], types: Sequence[bytes] = (b"\x60\0\0",), before: bytes = b"", behind: bytes = b"", use: int = 0) -> bytes:
     """A module whose functions have these bodies and all the same type."""
-    return (OPENING + section(1, vec(list(types))) + section(3, vec([leb(use)] * len(bodies))) + before
+    return (OPENING + section(1, vec(list(types))) + section(3, vec([u(use)] * len(bodies))) + before
             + section(10, vec(bodies)) + behind)
 
 
@@ -61,7 +55,7 @@ def nested(opening: bytes, count: int = 174_000) -> bytes:
 
 
 def tables(labels: int = 4096) -> bytes:
-    branch = b"\x41\0\x0e" + leb(labels) + b"\0" * (labels + 1)
+    branch = b"\x41\0\x0e" + u(labels) + b"\0" * (labels + 1)
     count = (SIZE - 200) // (len(branch) + 3)
     return module([body((b"\x02\x40" + branch + b"\x0b") * count)])
 
@@ -83,17 +77,17 @@ def segments(number: int) -> bytes:
     head = section(5, b"\1\0\1") if number == 11 else section(4, b"\1\x70\0\1")
     item = b"\0\x41\0\x0b\0"
     count = (SIZE - 60) // len(item)
-    return OPENING + head + section(number, leb(count) + item * count)
+    return OPENING + head + section(number, u(count) + item * count)
 
 
 def refused_behind_segments() -> bytes:
-    before = section(4, b"\1\x70\0\1") + section(9, leb(190_000) + b"\0\x41\0\x0b\0" * 190_000)
+    before = section(4, b"\1\x70\0\1") + section(9, u(190_000) + b"\0\x41\0\x0b\0" * 190_000)
     return module([body(b"\1" * 65_000 + b"\x6a")], before=before)
 
 
 def exports(length: int = 1004) -> bytes:
     names = [b"a" * (length - 4) + b"%04d" % k for k in range(1024)]
-    listed = vec([leb(length) + name + b"\0\0" for name in names])
+    listed = vec([u(length) + name + b"\0\0" for name in names])
     return OPENING + section(1, b"\1\x60\0\0") + section(3, b"\1\0") + section(7, listed) + section(10, vec([body(b"")]))
 
 
@@ -103,7 +97,7 @@ def counted(number: int) -> bytes:
 
 
 def locals_of(count: int) -> bytes:
-    return module([body(b"", vec([leb(1) + b"\x7f"] * 256))] * count)
+    return module([body(b"", vec([u(1) + b"\x7f"] * 256))] * count)
 
 
 MODULES: List[Tuple[str, Content, str]] = [

@@ -5,7 +5,7 @@ from __future__ import annotations
 import ctypes as c
 import operator
 import os
-from typing import Any, Optional
+from typing import Any, Callable, Optional
 
 from ._errors import Error, OutOfRange, _failed
 from ._abi import NONE, OK, RANGE, Buffer, _Handle, _lib
@@ -67,10 +67,6 @@ def _held(kind: Any, given: Any) -> Any:
 _NO_FUNCTION = -38                                      # what queue_work returns where uv_work or uv_after_work is not exported
 
 
-def _no_function(name: str) -> Error:
-    return Error(NONE, f"no function is exported as {name!r}")
-
-
 # How many exports an error looks at.
 _LISTED = 200
 
@@ -86,8 +82,17 @@ def _export(name: str) -> bytes:
     if not isinstance(name, str):
         raise TypeError(f"name: {_expected('a str', name)}")
     if "\0" in name:
-        raise _no_function(name)
+        raise Error(NONE, f"no function is exported as {name!r}")
     return name.encode(errors="surrogatepass")
+
+
+def _found(status: int, kind: str, name: str, held: _Handle, others: Optional[Callable[[], str]] = None) -> None:
+    """Raises Error unless the call found the "function" or "global" that is exported as `name`. If there is none, it has the status NONE, and says what
+    `others` does."""
+    if status == NONE:
+        raise Error(NONE, f"no {kind} is exported as {name!r}{f': {others()}' if others else ''}")
+    if status != OK:
+        raise _failed(status, kind, held)
 
 
 def _text(name: str, *words: Any) -> Optional[str]:

@@ -10,7 +10,7 @@ import time
 import warnings
 from typing import Any, Dict, List, NamedTuple, Optional, Tuple, Union
 
-from ._calls import _LISTED, _call, _data, _depth, _export, _fuel, _held, _module_data, _no_function, _text, _whole, explain, shown
+from ._calls import _LISTED, _call, _data, _depth, _export, _found, _fuel, _held, _module_data, _text, _whole, explain, shown
 from ._errors import Error, InertImports, Late, Refused, Stopped, _failed
 from ._abi import (ARGUMENTS, KIND, NONE, NOT_STARTED, OK, REFUSED, Buffer, Export, Fault, Shape, _CallLimits, _Ended, _lib, _Listed, _Signature, _Task)
 from ._objects import _SLICE, Job, Reply, _Held, _Inspected, _run_call, _signed, _until, _viewed
@@ -80,12 +80,8 @@ class Module(_Held):
 
     def function(self, name: str) -> Tuple[List[int], List[int]]:
         """The parameter and result types of the function exported as `name`, each as 32 or 64 bits."""
-        told, called = _Signature(), _export(name)
-        status = _lib.wasmloop_function(c.byref(self.handle), called, c.byref(told))
-        if status == NONE:
-            raise Error(NONE, f"{_no_function(name)}: {self._functions()}")
-        if status != OK:
-            raise _failed(status, "function", self.handle)
+        told = _Signature()
+        _found(_lib.wasmloop_function(c.byref(self.handle), _export(name), c.byref(told)), "function", name, self.handle, self._functions)
         return _types(told)
 
     def _export_at(self, number: int) -> Optional[Export]:

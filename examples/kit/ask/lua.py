@@ -6,6 +6,9 @@ usage: WASMLOOP=PROGRAM PYTHONPATH=capi/python WASMLOOP_LIBRARY=LIBRARY lua.py
 What a program returns is compared with the same by the Lua of ../../libraries, which can't ask, and so are the units of programs that never ask.
 It needs what examples/libraries needs, and binaryen for the Lua that asks anywhere.
 """
+
+from __future__ import annotations
+
 import asyncio
 import pathlib
 import shutil
@@ -14,12 +17,13 @@ import sys
 HERE = pathlib.Path(__file__).resolve().parent
 sys.path.insert(0, str(HERE.parent.parent / "libraries"))
 
-import ports                                            # noqa: E402
-import run as build                                     # noqa: E402
+import compiling                                        # noqa: E402
+import libraries                                        # noqa: E402
+from programs import DEPTH, FUEL, run                   # noqa: E402
 from wasmloop import Module, ask                        # noqa: E402
 
-OUT = build.OUT / "ask"
-FUEL, DEPTH, CROWD, MOST = 1 << 40, 128, 100, 1.02
+OUT = compiling.OUT / "ask"
+CROWD, MOST = 100, 1.02
 PROGRAMS = {
     "one question": 'return "the price is " .. ask("12")',
     "questions in pcall, coroutines, iterators and metamethods": '''
@@ -79,45 +83,41 @@ NEVER = {
 }
 
 
-async def price(question):
+async def price(question: bytes) -> bytes | None:
     await asyncio.sleep(0)
     return None if question == b"none" else str(int(question) * 7 % 1000).encode()
 
 
-def built(port, anywhere):
+def built(port: libraries.Port, anywhere: bool) -> bytes:
     """The plug-in; one that asks anywhere goes through Asyncify."""
     name, flags, sources = ("lua_anywhere", ["-DANYWHERE", "-DASK_STACK=16384"], ["lua.c", "ask.c"]) if anywhere else ("lua_ask", [], ["lua.c"])
-    words, made = build.WASM + build.port_flags("lua", port) + ["-mllvm", "-enable-emscripten-sjlj", f"-I{HERE}"], OUT / f"{name}.wasm"
-    kit = [build.KIT / it for it in ("guest.c", "wasi.c", "nofiles.c", "setjmp.c")] + [build.HERE.parent / "mem.c"]
-    objects = build.compile_all(words + flags, [HERE / it for it in sources], OUT / name)
-    objects += build.compile_all(words, build.files(port.sources, port.without), OUT / "w")
-    objects += build.compile_all(build.WASM + ["-ffreestanding"], kit, OUT / "k")
-    build.call(*build.LINK, "--import-undefined", "-o", made, *objects, *build.LIBRARIES)
+    words, made = compiling.WASM + compiling.port_flags("lua", port) + ["-mllvm", "-enable-emscripten-sjlj", f"-I{HERE}"], OUT / f"{name}.wasm"
+    kit = [compiling.KIT / it for it in ("guest.c", "wasi.c", "nofiles.c", "setjmp.c")] + [compiling.HERE.parent / "mem.c"]
+    objects = compiling.compile_all(words + flags, [HERE / it for it in sources], OUT / name)
+    objects += compiling.compile_all(words, compiling.files(port.sources, port.without), OUT / "w")
+    objects += compiling.compile_all(compiling.WASM + ["-ffreestanding"], kit, OUT / "k")
+    compiling.call(*compiling.LINK, "--import-undefined", "-o", made, *objects, *compiling.LIBRARIES)
     if anywhere:
         made.write_bytes(ask.asyncified(made.read_bytes()))
-    build.call(sys.executable, build.KIT / "lower.py", made, made, "--soft", build.soft())
+    compiling.call(sys.executable, compiling.KIT / "lower.py", made, made, "--soft", compiling.soft())
     return made.read_bytes()
 
 
-async def told(module, program, answer=price):
+async def told(module: Module, program: str) -> tuple[str, int]:
     """What a program returns, and its units."""
-    with ask.Plugin(module, answer, FUEL, DEPTH) as plugin:
-        memory, text = plugin.instance.memory, program.encode()
+    with ask.Plugin(module, price, FUEL, DEPTH) as plugin:
         plugin.instance.call("_initialize")
-        at = plugin.instance.call("program_at")
-        memory[at:at + len(text)] = text
-        status = await plugin.call("run", len(text), fuel=FUEL, depth=DEPTH)
-        at, size = (plugin.instance.call(it) for it in ("reply_at", "reply_size"))
-        return f"{status} {memory[at:at + size].decode()}", plugin.used
+        status, reply = await run(plugin, program)
+        return f"{status} {reply}", plugin.used
 
 
-def by_plain(module, program):
+def by_plain(module: Module, program: str) -> tuple[str, int]:
     """The same by the Lua that can't ask."""
     reply = module.work(0, f"print((function() {program}\nend)())".encode(), FUEL, DEPTH)
     return f"{reply.value} {reply.data.decode()[:-1]}", reply.used
 
 
-async def compare(module, plain, anywhere):
+async def compare(module: Module, plain: Module, anywhere: bool) -> int:
     wrong = 0
     for name, program in PROGRAMS.items():
         (asked, units), (known, own) = await told(module, program), by_plain(plain, KNOWN + program)
@@ -139,12 +139,12 @@ async def compare(module, plain, anywhere):
     return wrong
 
 
-def main():
-    port = ports.PORTS["lua"]
-    if not build.fetch(port.package):
+def main() -> bool:
+    port = libraries.PORTS["lua"]
+    if not compiling.fetch(port.package):
         print("left out: Lua that asks: the sources of Lua can't be fetched")
-        return 0
-    plain, wrong = build.module("lua", port).read_bytes(), 0
+        return False
+    plain, wrong = compiling.module("lua", port).read_bytes(), 0
     for anywhere in (False, True) if shutil.which("wasm-opt") else (False,):
         data = built(port, anywhere)
         print(f"{'asks anywhere' if anywhere else 'yields'}: {len(data):,} bytes, {len(plain):,} without questions", flush=True)

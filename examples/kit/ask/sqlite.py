@@ -6,6 +6,9 @@ usage: PYTHONPATH=capi/python WASMLOOP_LIBRARY=LIBRARY sqlite.py
 The rows are those of Python's own sqlite3 on the same SQL; the database at the host is a file of SQLite, which that reads. It needs what
 examples/warm/build.sh needs, and binaryen.
 """
+
+from __future__ import annotations
+
 import asyncio
 import pathlib
 import shutil
@@ -16,11 +19,12 @@ import sys
 HERE = pathlib.Path(__file__).resolve().parent
 sys.path.insert(0, str(HERE.parent.parent / "libraries"))
 
-import run as build                                     # noqa: E402
+import compiling                                        # noqa: E402
+from programs import DEPTH, FUEL, run                   # noqa: E402
 from wasmloop import Module, ask, explain               # noqa: E402
 
-OUT, SOURCE = build.OUT / "ask_sqlite", build.SOURCES / "sqlite3"
-FUEL, DEPTH, PAGE, CROWD = 1 << 40, 128, 4096, 50
+OUT, SOURCE = compiling.OUT / "ask_sqlite", compiling.SOURCES / "sqlite3"
+PAGE, CROWD = 4096, 50
 READ, WRITE, SIZE, TRUNCATE = range(4)
 FLAGS = """-Os -fno-jump-tables -DSQLITE_OS_OTHER=1 -DSQLITE_THREADSAFE=0 -DSQLITE_OMIT_LOAD_EXTENSION -DSQLITE_OMIT_WAL -DSQLITE_OMIT_DEPRECATED
     -DSQLITE_OMIT_PROGRESS_CALLBACK -DSQLITE_OMIT_SHARED_CACHE -DSQLITE_OMIT_LOCALTIME -DSQLITE_OMIT_UTF16 -DSQLITE_OMIT_AUTHORIZATION
@@ -59,10 +63,10 @@ QUERIES = (
 class Pages:
     """A database at the host: its bytes, and how many pages were read and written."""
 
-    def __init__(self, data=b""):
+    def __init__(self, data: bytes = b"") -> None:
         self.data, self.read, self.written = bytearray(data), 0, 0
 
-    async def answer(self, question):
+    async def answer(self, question: bytes) -> bytes:
         await asyncio.sleep(0)                          # a disk, or another machine
         kind, length, at = struct.unpack_from("<IIq", question)
         if kind == SIZE:
@@ -82,23 +86,18 @@ class Pages:
 class Database:
     """An instance of the plug-in over the pages of its host."""
 
-    def __init__(self, module, pages):
+    def __init__(self, module: Module, pages: Pages) -> None:
         self.plugin, self.pages = ask.Plugin(module, pages.answer, FUEL, DEPTH), pages
         self.plugin.instance.call("_initialize")
 
-    async def run(self, sql):
+    async def run(self, sql: str) -> str:
         """The rows, or the message of an error."""
-        instance, text = self.plugin.instance, sql.encode()
-        at = instance.call("program_at")
-        instance.memory[at:at + len(text)] = text
-        await self.plugin.call("run", len(text), fuel=FUEL, depth=DEPTH)
-        at, size = (instance.call(it) for it in ("reply_at", "reply_size"))
-        return instance.memory[at:at + size].decode()
+        return (await run(self.plugin, sql))[1]
 
 
-def in_python(known, sql):
+def in_python(known: sqlite3.Connection, sql: str) -> str:
     """The same by Python's sqlite3."""
-    told = []
+    told: list[str] = []
     try:
         for part in sql.split(";")[:-1]:
             told += ["|".join("NULL" if it is None else str(it) for it in row) for row in known.execute(part)]
@@ -107,20 +106,20 @@ def in_python(known, sql):
     return "".join(f"{it}\n" for it in told)
 
 
-def built():
+def built() -> bytes:
     """The plug-in."""
     if not (SOURCE / "sqlite3.c").is_file():
-        build.call("./configure", cwd=SOURCE)
-        build.call("make", "sqlite3.c", cwd=SOURCE)
-    kit = [build.KIT / it for it in ("guest.c", "wasi.c", "nofiles.c")] + [build.HERE.parent / "mem.c"]
-    objects = build.compile_all(build.WASM + FLAGS + ["-DASK_STACK=16384", f"-I{HERE}", f"-I{SOURCE}"],
-                                [HERE / "sqlite.c", HERE / "ask.c", SOURCE / "sqlite3.c"], OUT / "w")
-    objects += build.compile_all(build.WASM + ["-ffreestanding"], kit, OUT / "k")
-    build.call(*build.LINK, "-o", OUT / "linked.wasm", *objects, *build.LIBRARIES)
+        compiling.call("./configure", cwd=SOURCE)
+        compiling.call("make", "sqlite3.c", cwd=SOURCE)
+    kit = [compiling.KIT / it for it in ("guest.c", "wasi.c", "nofiles.c")] + [compiling.HERE.parent / "mem.c"]
+    words = compiling.WASM + FLAGS + ["-DASK_STACK=16384", f"-I{HERE}", f"-I{SOURCE}"]
+    objects = compiling.compile_all(words, [HERE / "sqlite.c", HERE / "ask.c", SOURCE / "sqlite3.c"], OUT / "w")
+    objects += compiling.compile_all(compiling.WASM + ["-ffreestanding"], kit, OUT / "k")
+    compiling.call(*compiling.LINK, "-o", OUT / "linked.wasm", *objects, *compiling.LIBRARIES)
     return (OUT / "linked.wasm").read_bytes()
 
 
-async def compare(module):
+async def compare(module: Module) -> int:
     """Whether all is as with Python's sqlite3: of one database, through two instances, and of many at once."""
     wrong, pages, known = 0, Pages(), sqlite3.connect(":memory:", isolation_level=None)
     first = Database(module, pages)
@@ -146,13 +145,13 @@ async def compare(module):
     return wrong
 
 
-def main():
-    if not shutil.which("wasm-opt") or not build.fetch("sqlite3") or not shutil.which("tclsh"):
+def main() -> bool:
+    if not shutil.which("wasm-opt") or not compiling.fetch("sqlite3") or not shutil.which("tclsh"):
         print("left out: SQLite that asks: there is no wasm-opt or no tclsh, or the sources of SQLite can't be fetched")
-        return 0
+        return False
     OUT.mkdir(parents=True, exist_ok=True)
     (OUT / "asks.wasm").write_bytes(ask.asyncified(built(), ",".join(NO_ASKERS), small=True))
-    build.call(sys.executable, build.KIT / "lower.py", OUT / "asks.wasm", OUT / "asks.wasm", "--soft", build.soft())
+    compiling.call(sys.executable, compiling.KIT / "lower.py", OUT / "asks.wasm", OUT / "asks.wasm", "--soft", compiling.soft())
     data = (OUT / "asks.wasm").read_bytes()
     if explain(data):
         sys.exit(explain(data))

@@ -1,10 +1,14 @@
 #!/usr/bin/env python3
 """What lower.py must refuse, by name, what it must take, and the names that it keeps. Wants wabt's wat2wasm, and as its arguments
 SOFT.wasm and the program."""
+
+from __future__ import annotations
+
 import pathlib
 import subprocess
 import sys
 import tempfile
+from typing import Iterator
 
 sys.path.insert(0, str(pathlib.Path(__file__).resolve().parent.parent))
 import lower  # noqa: E402
@@ -116,7 +120,7 @@ TOLD = ["1 memory.init, 1 data.drop, 1 memory.copy, 1 memory.fill: added 4 funct
         "segments of the memory in forms", "segments of the table in forms", "1 select with a type", "left out: datacount"]
 
 
-def module(text):
+def module(text: str) -> bytes:
     with tempfile.TemporaryDirectory() as folder:
         source, target = pathlib.Path(folder) / "m.wat", pathlib.Path(folder) / "m.wasm"
         source.write_text(f"(module {text})")
@@ -124,7 +128,7 @@ def module(text):
         return target.read_bytes()
 
 
-def refused(data, soft):
+def refused(data: bytes, soft: bytes | None) -> str:
     try:
         lower.lower(data, soft)
     except Refused as why:
@@ -132,24 +136,24 @@ def refused(data, soft):
     return ""
 
 
-def is_plain(data):
+def is_plain(data: bytes) -> bool:
     """Whether a module is of WebAssembly 1.0 as the host takes it, as far as lower.py sees."""
     again, lowering = lower.lower(data, None)
     return not lowering.told() and all(op not in (0xFC, 0x1C) for _, body in Module(again).bodies for op, _, _ in operations(body))
 
 
-def through_table(program, data):
+def through_table(program: str, data: bytes) -> Iterator[tuple[tuple[str, int], str]]:
     """What the program answers of calls through the table of a module."""
     with tempfile.TemporaryDirectory() as folder:
         target = pathlib.Path(folder) / "m.wasm"
         target.write_bytes(data)
         for name, at in TABLE:
-            words = [program, "invoke", target, name, str(at)]
+            words = [program, "invoke", str(target), name, str(at)]
             told = subprocess.run(words, stdout=subprocess.PIPE, stderr=subprocess.DEVNULL, check=False).stdout.decode().split()
             yield (name, at), "trap" if told[:2] == ["trap", "7"] else told[1]
 
 
-def main(path, program=None):
+def main(path: str, program: str | None = None) -> bool:
     soft = pathlib.Path(path).read_bytes()
     wrong = [f"{text}: {refused(module(text), soft) or 'taken'}" for text, words in REFUSED if words not in refused(module(text), soft)]
     for body, words in MIXED:

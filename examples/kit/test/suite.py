@@ -10,12 +10,16 @@ are made again only where the module has a memory or a global that is written. T
 or a module that the suite calls can't be run.
 A module that the suite calls invalid has to be refused, by lower.py or by the program.
 """
+
+from __future__ import annotations
+
 import collections
 import json
 import pathlib
 import subprocess
 import sys
 import tempfile
+from typing import Counter, List, Optional, Sequence, TypedDict
 
 sys.path.insert(0, str(pathlib.Path(__file__).resolve().parent.parent))
 import lower  # noqa: E402
@@ -28,12 +32,41 @@ QUIET = {"f32": 0x7FC00000, "f64": 0x7FF8000000000000}
 FUEL = "100000000"
 
 
-def signed(text, bits):
+class Value(TypedDict):
+    """A number of the suite."""
+
+    type: str
+    value: str
+
+
+class Action(TypedDict, total=False):
+    """A call, or a read of a global."""
+
+    type: str
+    module: str
+    field: str
+    args: List[Value]
+
+
+class Command(TypedDict, total=False):
+    """A command, as wast2json writes it; each kind has some of these."""
+
+    type: str
+    line: int
+    name: str
+    filename: str
+    module_type: str
+    action: Action
+    expected: List[Value]
+    text: str
+
+
+def signed(text: str, bits: int) -> int:
     number = int(text)
     return number - (1 << bits) if number >> (bits - 1) else number
 
 
-def is_wanted(got, wanted):
+def is_wanted(got: int, wanted: Value) -> bool:
     """Whether a result, a signed number, is what the suite expects."""
     kind, value = wanted["type"], wanted["value"]
     bits = got & ((1 << BITS[kind]) - 1)
@@ -44,24 +77,30 @@ def is_wanted(got, wanted):
     return got == signed(value, BITS[kind])
 
 
-def is_write(op, behind):
+def is_write(op: int, behind: Sequence[int]) -> bool:
     return op in range(0x36, 0x3F) or op in (GLOBAL_SET, 0x40) or op == PREFIX and behind[0] in (INIT, DROP, COPY, FILL)
 
 
 class Runner:
-    def __init__(self, program, soft, folder):
+    def __init__(self, program: str, soft: bytes, folder: pathlib.Path) -> None:
         self.program, self.soft, self.folder = program, soft, folder
-        self.counts, self.wrong, self.module, self.why, self.before = collections.Counter(), [], None, "no module", []
-        self.name = None
+        self.counts: Counter[str] = collections.Counter()
+        self.wrong: List[str] = []
+        self.module = folder / "module.wasm"
+        # why the module can't be called, and what was called before on it
+        self.why: Optional[str] = "no module"
+        self.before: List[Action] = []
+        self.name: Optional[str] = None
+        self.writes = False
 
-    def load(self, path, name=None):
+    def load(self, path: pathlib.Path, name: Optional[str] = None) -> str:
         data, self.before, self.name = path.read_bytes(), [], name
         try:
             lowered, _ = lower.lower(data, self.soft)
         except Refused as why:
             self.why = f"lower.py refuses the module: {why}"
             return "module refused by lower.py"
-        self.module, self.why = self.folder / "module.wasm", None
+        self.why = None
         self.module.write_bytes(lowered)
         told = self.tell("check", self.module)
         if told != "accepted":
@@ -70,7 +109,7 @@ class Runner:
         self.writes = any(is_write(op, behind) for _, body in Module(data).bodies for op, _, behind in operations(body))
         return "module rewritten and accepted"
 
-    def invalid(self, command, path):
+    def invalid(self, command: Command, path: pathlib.Path) -> str:
         try:
             data = (path.parent / command["filename"]).read_bytes()
             lowered, _ = lower.lower(data, self.soft)
@@ -83,11 +122,11 @@ class Runner:
         self.wrong.append(f"line {command['line']}: an invalid module is accepted")
         return "differs"
 
-    def tell(self, *words):
+    def tell(self, *words: object) -> str:
         done = subprocess.run([self.program, *map(str, words)], stdout=subprocess.PIPE, stderr=subprocess.PIPE)
         return (done.stdout or done.stderr).decode().split("\n")[0]
 
-    def act(self, command):
+    def act(self, command: Command) -> str:
         action = command["action"]
         if self.why or action["type"] != "invoke" or action.get("module", self.name) != self.name:
             return f"not run: {self.why or 'a read of a global or a named module'}"
@@ -102,7 +141,7 @@ class Runner:
             self.before.append(action)
         return self.judge(command, told)
 
-    def call_in_a_row(self, action):
+    def call_in_a_row(self, action: Action) -> None:
         """A module whose "row" makes the earlier calls and then this one: an instance lives as long as one call."""
         module = Module(self.module.read_bytes())
         exports = {n.decode(): i for n, kind, i in module.exports if kind == 0}
@@ -119,7 +158,7 @@ class Runner:
         module.bodies.append(([], code + b"\x0b"))
         (self.folder / "row.wasm").write_bytes(Lowering(module, None).module())
 
-    def judge(self, command, told):
+    def judge(self, command: Command, told: str) -> str:
         kind = command["type"]
         if kind == "action":
             right = told.startswith("return")
@@ -136,8 +175,8 @@ class Runner:
                           f"expected {command.get('expected') or command.get('text')}")
         return "differs"
 
-    def file(self, path):
-        counts = collections.Counter()
+    def file(self, path: pathlib.Path) -> None:
+        counts: Counter[str] = collections.Counter()
         for command in json.loads(path.read_text())["commands"]:
             if command["type"] == "module":
                 counts[self.load(path.parent / command["filename"], command.get("name"))] += 1
@@ -149,7 +188,7 @@ class Runner:
         self.counts.update(counts)
 
 
-def main(program, soft, *files):
+def main(program: str, soft: str, *files: str) -> int:
     with tempfile.TemporaryDirectory() as folder:
         runner = Runner(program, pathlib.Path(soft).read_bytes(), pathlib.Path(folder))
         for path in files:

@@ -5,12 +5,16 @@ Each file NAME.rs here has the crate's line for Cargo.toml in its head and a fun
 natively, by Debian's cargo and rustc 1.63, without a network. SOFT.wasm (kit/soft.c compiled) lies in FOLDER; a module that the host
 refuses goes through kit/lower.py. Status 1 if an answer is another; a crate that Debian's packages here lack is left out, and said.
 """
+
+from __future__ import annotations
+
 import os
 import pathlib
 import re
 import shutil
 import subprocess
 import sys
+from typing import Mapping, Union
 
 HERE = pathlib.Path(__file__).resolve().parent
 EXAMPLES = HERE.parent.parent
@@ -20,6 +24,7 @@ GPL = pathlib.Path("/usr/share/common-licenses/GPL-3").read_bytes()
 MARKDOWN = b"# T\n\nsome *text* with `code` and [a](b)\n\n| a | b |\n|---|---|\n| 1 | ~~2~~ |\n\n1. x\n2. y\n   - z\n\n> q\n\n```\nfn\n```\n" * 40
 OBJECT = b'{"b":[1,2.5,-1e300,0.1,1e-7,123456789012,{"x":null,"y":[true,false,"\\u00e9"]}],"a":"qq"}'
 TOML = b'a = 1\nb = [1.5, 2.25]\n[t]\nx = "y"\nd = 1979-05-27T07:32:00Z\n[[q]]\nz = true\n'
+StrPath = Union[str, pathlib.Path]
 REQUESTS = {
     "base64": [GPL[:20000], b""], "bigint": [GPL], "blake3": [GPL, b"abc"], "crc32": [GPL],
     "csv": [b'a,"b ""c""",d\n1,2,3\n"x\ny",z\n' * 50], "json": [OBJECT, b"[1,2", b"[" * 60 + b"]" * 60],
@@ -28,15 +33,16 @@ REQUESTS = {
 }
 
 
-def run(*words, **more):
-    return subprocess.run([str(word) for word in words], stdout=subprocess.PIPE, stderr=subprocess.PIPE, check=False, **more)
+def run(*words: object, cwd: pathlib.Path | None = None, env: Mapping[str, str] | None = None,
+        given: bytes | None = None) -> subprocess.CompletedProcess[bytes]:
+    return subprocess.run([str(word) for word in words], stdout=subprocess.PIPE, stderr=subprocess.PIPE, check=False, cwd=cwd, env=env, input=given)
 
 
-def dependencies(name):
+def dependencies(name: str) -> str:
     return "\n".join(re.findall(r"^//! (.* = .*)$", (HERE / f"{name}.rs").read_text(), re.M))
 
 
-def build(folder, name, library, *words):
+def build(folder: pathlib.Path, name: str, library: bool, *words: str) -> pathlib.Path | None:
     """A crate of the glue and the file, and of what it is made of: none where Debian's packages lack a crate."""
     source = folder / "src" if library else folder / "src" / "guest"
     shutil.rmtree(folder / "src", ignore_errors=True)
@@ -58,7 +64,7 @@ def build(folder, name, library, *words):
     return folder / "target"
 
 
-def module(program, folder, name):
+def module(program: StrPath, folder: pathlib.Path, name: str) -> pathlib.Path | None:
     """The crate as a module of the host's."""
     shutil.copytree(EXAMPLES / "rust/deflate/.cargo", folder / name / ".cargo", dirs_exist_ok=True)
     built = build(folder / name, name, True, "--target", TARGET)
@@ -74,7 +80,7 @@ def module(program, folder, name):
     return wasm
 
 
-def check(program, folder, name):
+def check(program: StrPath, folder: pathlib.Path, name: str) -> int | None:
     """How many answers are other than the native ones; none where the crate is left out."""
     wasm, native = module(program, folder, name), build(folder / f"{name}_native", name, False)
     if wasm is None or native is None:
@@ -83,13 +89,13 @@ def check(program, folder, name):
     wrong = 0
     for data in REQUESTS[name]:
         told = run(program, "work", wasm, 0, *([data.hex()] if data else []), "--fuel", 1 << 40, "--depth", 128)
-        same = told.stdout == run(native / "release" / "guest", 0, input=data).stdout and told.stdout.startswith(b"done")
+        same = told.stdout == run(native / "release" / "guest", 0, given=data).stdout and told.stdout.startswith(b"done")
         wrong += not same
         print(f"{name}: {wasm.stat().st_size} bytes, {len(data)} bytes in: {'as native' if same else 'WRONG: ' + told.stdout.decode()[:80]}", flush=True)
     return wrong
 
 
-def main(program, folder, *names):
+def main(program: str, folder: str, *names: str) -> bool:
     found = [check(os.path.abspath(program), pathlib.Path(folder).resolve(), name) for name in names or REQUESTS]
     print(f"{len([it for it in found if it is not None])} crates, {sum(it or 0 for it in found)} answers are not as native")
     return any(found)

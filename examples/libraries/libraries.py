@@ -1,8 +1,11 @@
 """Which files of a library are compiled, with which flags, and what is computed with it.
 
 Paths begin at the folder into which Debian's source package of that name is unpacked; an @ in a flag stands for the
-folder of all of them, and a % for one into which run.py writes what a configure script would.
+folder of all of them, and a % for one into which compiling.py writes what a configure script would.
 """
+
+from __future__ import annotations
+
 import bz2
 import dataclasses
 import gzip
@@ -50,16 +53,18 @@ LUA_LEFT_OUT = ("lua.c", "luac.c", "linit.c", "loslib.c", "liolib.c", "loadlib.c
 @dataclasses.dataclass
 class Port:
     package: str              # Debian's source package
-    sources: list             # patterns of the files to compile
+    sources: list[str]        # patterns of the files to compile
     flags: str = ""
-    without: tuple = ()       # files that a pattern names and that are not compiled
-    native_sources: list = dataclasses.field(default_factory=list)
+    # files that a pattern names and that are not compiled
+    without: tuple[str, ...] = ()
+    native_sources: list[str] = dataclasses.field(default_factory=list)
     wasm_flags: str = ""
     lower: bool = False       # has floats: lower.py rewrites the module
     jumps: bool = False       # calls setjmp
     no_files: bool = False    # names files and clocks: nofiles.c answers
     cpp: bool = False         # is of C++, and so is its glue
-    made: dict = dataclasses.field(default_factory=dict)    # files below %: each of which template, with what in its places
+    # files below %: each of which template, with what in its places
+    made: dict[str, tuple[str, dict[str, str]]] = dataclasses.field(default_factory=dict)
 
 
 PORTS = {
@@ -223,22 +228,22 @@ CSV = b'a,b,"c ""d"" e",f\r\n1,2,3\n,,\n"x\ny",z' * 100
 NOISE = bytes((i * 2654435761 >> 13) & 255 for i in range(4096))
 
 
-def png():
+def png() -> bytes:
     """A picture of 100 times 60 points."""
-    def chunk(kind, data):
+    def chunk(kind: bytes, data: bytes) -> bytes:
         return struct.pack(">I", len(data)) + kind + data + struct.pack(">I", zlib.crc32(kind + data))
     rows = b"".join(b"\1" + bytes((x * y + c * 50) & 255 for x in range(100) for c in range(3)) for y in range(60))
     head = struct.pack(">IIBBBBB", 100, 60, 8, 2, 0, 0, 0)
     return b"\x89PNG\r\n\x1a\n" + chunk(b"IHDR", head) + chunk(b"IDAT", zlib.compress(rows)) + chunk(b"IEND", b"")
 
 
-def tool(words, data):
+def tool(words: list[str], data: bytes) -> bytes:
     return subprocess.run(words, input=data, stdout=subprocess.PIPE, check=True).stdout
 
 
-def rows(sources):
+def rows(sources: pathlib.Path) -> list[tuple[str, int, bytes, str]]:
     """(port, operation, request, what it is): the texts are Debian's GPL-3 and files of the packages themselves."""
-    def read(path, most=60000):
+    def read(path: str, most: int = 60000) -> bytes:
         return (pathlib.Path(sources) / path).read_bytes()[:most]
     gpl = pathlib.Path("/usr/share/common-licenses/GPL-3").read_bytes()
     xml, manual = read("expat/expat/doc/xmlwf.xml"), read("md4c/test/spec.txt", 40000)

@@ -14,7 +14,7 @@ left=() failed=()
 lacks() {
     case $1 in
     sqlite) command -v sqlite3 > /dev/null || echo sqlite3; [ -f /usr/include/sqlite3ext.h ] || echo libsqlite3-dev ;;
-    postgres) command -v pg_config > /dev/null || echo postgresql-server-dev-15; [ -x "$(pg_config --bindir 2> /dev/null)/initdb" ] || echo postgresql ;;
+    postgres) [ -f "$(pg_config --includedir-server 2> /dev/null)/postgres.h" ] || echo postgresql-server-dev-15; [ -x "$(pg_config --bindir 2> /dev/null)/initdb" ] || echo postgresql ;;
     nginx) command -v nginx > /dev/null || echo nginx; [ -f /usr/share/nginx/src/conf_flags ] || echo nginx-dev; command -v curl > /dev/null || echo curl ;;
     redis) command -v redis-server > /dev/null || command -v valkey-server > /dev/null || echo redis-server; command -v redis-cli > /dev/null || echo redis-tools ;;
     node) command -v node > /dev/null || echo nodejs; [ -f "${NODE_INCLUDE:-/usr/include/node}/node_api.h" ] || echo libnode-dev ;;

@@ -20,17 +20,12 @@ width=$(sed -n 's/^max_line_length = //p' .editorconfig | head -n 1)
 if has flake8; then files '*.py' | xargs flake8 --max-line-length="$width" || wrong=1; fi
 # mypy of the package and the tools, and of each other folder, since modules of several have one name; MYPYPATH: the folders whose modules others use
 together='^(build|capi/make_wheel|capi/python/.*|tools/.*)\.py$'
-# (what has no types yet)
-untyped='^examples/edge/(bench/|other/|[^/]*$)'
 export MYPYPATH=capi/python:trials/programs:trials/spec:bench/cost:bench/peers:bench/kernels:examples/kit:examples/libraries:examples/rust/crates:examples/edge
 strict() { mypy --strict --no-error-summary --cache-dir="${XDG_CACHE_HOME:-$HOME/.cache}/wasmloop/mypy" "$@"; }
 if has mypy; then
     # shellcheck disable=SC2046 # (no file's name has a blank)
     strict $(files '*.py' | grep -E "$together") || wrong=1
-    for folder in $(files '*.py' | grep -vE "$together|$untyped" | sed 's|/[^/]*$||' | sort -u); do
-        # shellcheck disable=SC2046 # (no file's name has a blank)
-        strict $(files "$folder/*.py" | grep -vE "$untyped|^$folder/.*/") || wrong=1
-    done
+    for folder in $(files '*.py' | grep -vE "$together" | sed 's|/[^/]*$||' | sort -u); do strict "$folder"/*.py || wrong=1; done
 fi
 if has cc; then for file in capi/wasmloop.c capi/names.c; do try cc -std=c99 -Wall -Wextra -Werror -Icapi/include -fsyntax-only "$file"; done; fi
 exit $wrong

@@ -21,32 +21,45 @@ import wasmloop
 from aiohttp import web
 
 STATUS = {"done": 200, "nowork": 404, "trap": 500, "depth": 500, "nomemory": 503, "ends": 503, "spent": 504, "late": 504}
-LIMITS = {"fuel": 10_000_000, "depth": 64, "queue": 64, "deadline": 1000, "type": "application/octet-stream"}
+LIMITS, TYPE = {"fuel": 10_000_000, "depth": 64, "queue": 64, "deadline": 1000}, "application/octet-stream"
 TRAPS = ("", "unreachable", "division by zero", "a quotient out of range", "an access outside the memory", "an index past the table", "an empty element",
          "a function of another type")
 MOST_WAITING, SLICE = 4096, 20_000  # SLICE: units
-tenants, active, pace = {}, set(), 0.0
+Words = tuple[str, wasmloop.Module, bytes, int, bytes, dict[str, int], float]  # what run takes
+LOOP: asyncio.AbstractEventLoop
+POOL: futures.ThreadPoolExecutor
+OVER: asyncio.Event
+WAKE: asyncio.Event
 
 
 class Tenant:
-    def __init__(self, name):
+    limits: dict[str, int]
+    type: str
+    module: wasmloop.Module | None
+    stamps: dict[str, tuple[int, int, int] | None]
+    waiting: collections.deque[tuple[asyncio.Future[tuple[wasmloop.Reply, str]], Words]]
+    counted: collections.Counter[str]
+
+    def __init__(self, name: str) -> None:
         self.name, self.module, self.bytes, self.said, self.stamps, self.loading = name, None, b"", "", {}, asyncio.Lock()
         self.waiting, self.running, self.share, self.mean = collections.deque(), 0, 0.0, 0.0
         self.counted, self.used, self.cpu = collections.Counter(), 0, 0.0
 
-    def changed(self, suffix):
+    def changed(self, suffix: str) -> pathlib.Path | None:
         """The path of its file with this suffix, if it has changed since it was last seen."""
         path = FOLDER / (self.name + suffix)
         stat = path.stat() if path.exists() else None
-        before, self.stamps[suffix] = self.stamps.get(suffix, 0), stat and (stat.st_mtime_ns, stat.st_size, stat.st_ino)
+        before, self.stamps[suffix] = self.stamps.get(suffix, 0), (stat.st_mtime_ns, stat.st_size, stat.st_ino) if stat else None
         return path if self.stamps[suffix] != before else None
 
-    async def fresh(self):
+    async def fresh(self) -> wasmloop.Module | None:
         """Reads its files if they have changed, the module in a thread."""
         async with self.loading:
             if path := self.changed(".conf"):
                 words = path.read_text().split() if path.exists() else []
-                self.limits = LIMITS | {"run": max(1, WORKERS - 1)} | {k: v if k == "type" else int(v) for k, v in zip(words[::2], words[1::2])}
+                given = list(zip(words[::2], words[1::2]))
+                self.limits = LIMITS | {"run": max(1, WORKERS - 1)} | {k: int(v) for k, v in given if k != "type"}
+                self.type = dict(given).get("type", TYPE)
             if path := self.changed(".wasm"):
                 try:
                     data = path.read_bytes()
@@ -56,19 +69,24 @@ class Tenant:
         return self.module
 
 
-def with_line(name, code, where):
+tenants: dict[str, Tenant] = {}
+active: set[Tenant] = set()
+pace = 0.0
+
+
+def with_line(name: str, code: bytes, where: str) -> str:
     """A backtrace with " [FILE:LINE]" after its first byte, if FOLDER/NAME.lines describes this module: lines.c has its format."""
     with contextlib.suppress(OSError, ValueError):
         head, *rows = (FOLDER / f"{name}.lines").read_text().splitlines()
         starts, places = zip(*((int(byte), place) for byte, place in (row.split(" ", 1) for row in rows)))
         at = re.search(r"at byte (\d+)", where)
         row = bisect.bisect_right(starts, int(at[1])) if at and head == f"module {len(code)} {zlib.adler32(code)}" else 0
-        if row and places[row - 1] != "-" and places[row - 1].isprintable():
+        if at and row and places[row - 1] != "-" and places[row - 1].isprintable():
             return f"{where[:at.end()]} [{places[row - 1]}]{where[at.end():]}"
     return where
 
 
-def explain(name, code, reply, job):
+def explain(name: str, code: bytes, reply: wasmloop.Reply, job: wasmloop.Job) -> str:
     """How a job failed, and where if the library knows, as edge.c writes it."""
     where = None
     with contextlib.suppress(wasmloop.Error):
@@ -77,7 +95,7 @@ def explain(name, code, reply, job):
     return f"{how}, after {reply.used} units" + (f", {with_line(name, code, where)}" if where else "")
 
 
-def run(name, module, code, op, data, limits, until):
+def run(name: str, module: wasmloop.Module, code: bytes, op: int, data: bytes, limits: dict[str, int], until: float) -> tuple[wasmloop.Reply, str, float]:
     """In a thread: the reply, the text of a failure, and the processor time."""
     began, over, said = time.thread_time(), False, ""
     try:
@@ -92,7 +110,7 @@ def run(name, module, code, op, data, limits, until):
     return reply, said, time.thread_time() - began
 
 
-async def worker():
+async def worker() -> None:
     """Keeps a thread busy: the tenant that has used the least time goes first."""
     global pace
     while True:
@@ -107,16 +125,17 @@ async def worker():
         reply, said, cpu = await LOOP.run_in_executor(POOL, run, *words)
         best.share, best.mean = best.share + cpu - best.mean, best.mean + (cpu - best.mean) / 8
         best.cpu, best.used, best.running = best.cpu + cpu, best.used + reply.used, best.running - 1
-        answer.cancelled() or answer.set_result((reply, said))
+        if not answer.cancelled():
+            answer.set_result((reply, said))
         WAKE.set()
 
 
-def told(tenant, status, text, outcome="refused", heads=None):
+def told(tenant: Tenant, status: int, text: str, outcome: str = "refused", heads: dict[str, str] | None = None) -> web.Response:
     tenant.counted[outcome] += 1
     return web.Response(status=status, text=f"{tenant.name}: {text}\n", headers=(heads or {}) | ({"Retry-After": "1"} if status in (429, 503) else {}))
 
 
-async def work(request):
+async def work(request: web.Request) -> web.Response:
     name, op = request.match_info["name"], int(request.match_info.get("op") or 0)
     if not (FOLDER / f"{name}.wasm").exists():
         tenants.pop(name, None)
@@ -124,7 +143,9 @@ async def work(request):
     tenant = tenants.get(name) or tenants.setdefault(name, Tenant(name))
     data, until = await request.read(), time.monotonic()
     module, waits = await tenant.fresh(), sum(len(t.waiting) for t in active)
-    reasons = ((not module, 500, tenant.said), (op >= 2**32, 400, "an operation is a number below 2^32"),
+    if not module:
+        return told(tenant, 500, tenant.said)
+    reasons = ((op >= 2**32, 400, "an operation is a number below 2^32"),
                (OVER.is_set(), 503, "the server is shutting down"), (waits >= MOST_WAITING, 503, "the server's queue is full"),
                (len(tenant.waiting) >= tenant.limits["queue"], 429, "its queue is full"))
     for holds, status, text in reasons:
@@ -141,24 +162,25 @@ async def work(request):
     if reply.outcome != "done":
         return told(tenant, STATUS[reply.outcome], said, reply.outcome, heads)
     tenant.counted["done"] += 1
-    return web.Response(body=reply.data, headers=heads | {"Content-Type": tenant.limits["type"]})
+    return web.Response(body=reply.data, headers=heads | {"Content-Type": tenant.type})
 
 
-async def metrics(_):
+async def metrics(_: web.Request) -> web.Response:
     text = "".join(f'edge_requests_total{{tenant="{n}",outcome="{k}"}} {v}\n' for n, t in tenants.items() for k, v in t.counted.items())
     for name, number in ("fuel_units_total", "used"), ("cpu_seconds_total", "cpu"):
         text += "".join(f'edge_{name}{{tenant="{n}"}} {getattr(t, number)}\n' for n, t in tenants.items())
     return web.Response(text=text)
 
 
-def stop():
+def stop() -> None:
     """Running requests are finished, waiting ones are answered with 503."""
     OVER.set()
     for answer in [tenant.waiting.popleft()[0] for tenant in active for _ in list(tenant.waiting)]:
-        answer.cancelled() or answer.set_result((wasmloop.Reply("ends", 0, b"", 0), "the server is shutting down"))
+        if not answer.cancelled():
+            answer.set_result((wasmloop.Reply("ends", 0, b"", 0), "the server is shutting down"))
 
 
-async def serve():
+async def serve() -> None:
     global LOOP, POOL, OVER, WAKE
     LOOP, POOL, OVER, WAKE = asyncio.get_running_loop(), futures.ThreadPoolExecutor(WORKERS), asyncio.Event(), asyncio.Event()
     app = web.Application(client_max_size=65537)

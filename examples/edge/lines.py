@@ -8,11 +8,12 @@ up the line of each instruction. lines.c has the format.
 import pathlib
 import sys
 import zlib
+from typing import Iterator, Tuple
 
 from wasmloop import _tool, lines
 
 
-def rows(ran, debug, name):
+def rows(ran: bytes, debug: bytes, name: str) -> Iterator[Tuple[int, str]]:
     """Each byte at which the source changes, and the source from there on."""
     source = lines.Lines(ran, debug, name)
     bytes_of = [start for body in source.module.bodies for start, _, _ in body.ops]
@@ -24,13 +25,14 @@ def rows(ran, debug, name):
         last = place
 
 
-def main():
+def main() -> int:
     if not 2 <= len(sys.argv) <= 3:
         raise SystemExit(__doc__)
     ran, debug = (pathlib.Path(it).read_bytes() for it in (sys.argv[1], sys.argv[-1]))
     print(f"module {len(ran)} {zlib.adler32(ran)}")
     for byte, place in rows(ran, debug, sys.argv[-1]):
         print(byte, place)
+    return 0
 
 
 if __name__ == "__main__":

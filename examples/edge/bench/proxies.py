@@ -8,6 +8,7 @@ an answer, or answered 503: work functions keep nothing, so twice is as good as 
 that retries lost an answer, or gave another than 200.
 """
 import os
+import pathlib
 import re
 import shutil
 import subprocess
@@ -71,15 +72,15 @@ http {
 """
 
 
-def ip(*words):
+def ip(*words: str) -> None:
     subprocess.run(["ip", *words], check=True)
 
 
-def inside(name, *words, **more):
-    return subprocess.Popen(["ip", "netns", "exec", name, *words], stderr=subprocess.DEVNULL, **more)
+def inside(name: str, *words: str | pathlib.Path, stdout: int = subprocess.DEVNULL) -> subprocess.Popen[str]:
+    return subprocess.Popen(["ip", "netns", "exec", name, *words], stdout=stdout, stderr=subprocess.DEVNULL, text=True)
 
 
-def build_net():
+def build_net() -> None:
     for name in (FRONT, *BACKS):
         ip("netns", "add", name)
         ip("-n", name, "link", "set", "lo", "up")
@@ -93,17 +94,17 @@ def build_net():
         ip("-n", name, "link", "set", "eth0", "up")
 
 
-def start_server(n):
-    return inside(BACKS[n], told.edge, "-a", ADDRESSES[n], "-p", "8080", "-w", "2", ROOM / "tenants", stdout=subprocess.DEVNULL)
+def start_server(n: int) -> subprocess.Popen[str]:
+    return inside(BACKS[n], told.edge, "-a", ADDRESSES[n], "-p", "8080", "-w", "2", ROOM / "tenants")
 
 
-def end(process, how):
+def end(process: subprocess.Popen[str], how: str) -> None:
     """ip netns exec becomes the program itself."""
     getattr(process, how)()
     process.wait()
 
 
-def proxy(name, retries):
+def proxy(name: str, retries: bool) -> subprocess.Popen[str]:
     if name == "haproxy":
         servers = "\n".join(f"    server s{n} {it}:8080" for n, it in enumerate(ADDRESSES))
         text = HAPROXY.replace("@RETRIES@", "retries 3\n    option redispatch\n    retry-on conn-failure empty-response 503" if retries else "retries 0")
@@ -112,14 +113,15 @@ def proxy(name, retries):
         text = NGINX.replace("@RETRIES@", f"proxy_next_upstream {'error timeout http_503 non_idempotent' if retries else 'off'};")
     path = ROOM / f"{name}.conf"
     path.write_text(text.replace("@SERVERS@", servers).replace("@ROOM@", str(ROOM)))
-    return inside(FRONT, *(["haproxy", "-db", "-f", path] if name == "haproxy" else ["nginx", "-p", ROOM, "-c", path]), stdout=subprocess.DEVNULL)
+    command: list[str | pathlib.Path] = ["haproxy", "-db", "-f", path] if name == "haproxy" else ["nginx", "-p", ROOM, "-c", path]
+    return inside(FRONT, *command)
 
 
-def try_one(name, retries):
+def try_one(name: str, retries: bool) -> bool:
     servers = [start_server(n) for n in range(3)]
     front = proxy(name, retries)
     time.sleep(1.5)
-    load = inside(FRONT, told.load, "-c", "64", "-d", "12", "-r", str(told.rate), "8080", "/hello", stdout=subprocess.PIPE, text=True)
+    load = inside(FRONT, told.load, "-c", "64", "-d", "12", "-r", str(told.rate), "8080", "/hello", stdout=subprocess.PIPE)
     for wait, n, how in ((3, 1, "kill"), (3, 1, None), (2, 2, "terminate"), (1.5, 2, None)):
         time.sleep(wait)
         if how:
@@ -133,7 +135,7 @@ def try_one(name, retries):
     return re.search(r"lost 0 strays 0 .* status 200 \d+$" if retries else "^asked", said) is not None
 
 
-def main():
+def main() -> None:
     shutil.copytree(told.guests, ROOM / "tenants")
     (ROOM / "tenants/hello.conf").write_text("deadline 30000\n")  # a busy machine is no failure
     good = True

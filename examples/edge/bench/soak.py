@@ -20,6 +20,7 @@ import subprocess
 import sys
 import threading
 import time
+from collections.abc import Iterable
 
 import common
 from common import ask
@@ -32,22 +33,24 @@ EXACT = os.environ | {"GLIBC_TUNABLES": "glibc.malloc.tcache_count=0:glibc.mallo
 HOSTILE = "spin", "bomb", "trap", "deep", "limiter"
 PATHS = "/spin", "/bomb", "/trap/0", "/deep", "/flood/ask", "/limiter/ask"
 over = threading.Event()
-numbers, statuses, twice = bytearray(), collections.Counter(), []
-seen = collections.Counter()
+numbers = bytearray()
+twice: list[int] = []
+statuses: collections.Counter[str] = collections.Counter()
+seen: collections.Counter[str] = collections.Counter()
 
 
-def patient(name):
+def patient(name: str) -> None:
     """A busy machine is no failure."""
     (FOLDER / f"{name}.conf").write_text(f"deadline {PATIENCE}000\n")
 
 
-def put(name, guest):
+def put(name: str, guest: str) -> None:
     common.put(pathlib.Path(told.guests) / f"{guest}.wasm", FOLDER / f"{name}.wasm")
 
 
-def read_log(server):
+def read_log(log: Iterable[str]) -> None:
     """Each request's number must come once."""
-    for line in server.stdout:
+    for line in log:
         words = dict(it.split("=", 1) for it in line.split())
         number = int(words["request"])
         numbers.extend(bytes(max(0, number + 1 - len(numbers))))
@@ -57,7 +60,7 @@ def read_log(server):
         statuses[words["status"]] += 1
 
 
-def come_and_go(port):
+def come_and_go(port: int) -> None:
     """A tenant comes, is asked, changes, is asked until the new module answers, and goes; one of those that stay changes."""
     n = 0
     while not over.is_set():
@@ -78,12 +81,12 @@ def come_and_go(port):
         over.wait(0.02)
 
 
-def hostile(port, path):
+def hostile(port: int, path: str) -> None:
     while not over.is_set():
         seen[f"{path} {ask(port, path)[0]}"] += 1
 
 
-def warm(port):
+def warm(port: int) -> None:
     """All tenants that stay are asked, and so many hostile guests have all their memory at once: their jobs take turns."""
     for n in range(told.tenants):
         ask(port, f"/t{n}")
@@ -91,7 +94,7 @@ def warm(port):
         list(pool.map(lambda n: ask(port, f"/warm{n % WARM}"), range(4 * WARM)))
 
 
-def idle(port):
+def idle(port: int) -> dict[str, int]:
     """What malloc has given out once the server is idle and as it was at first; `flood`, which is never idle, is removed before."""
     (FOLDER / "flood.wasm").unlink()
     end = time.monotonic() + PATIENCE
@@ -104,7 +107,7 @@ def idle(port):
     raise SystemExit(f"the server is not idle: {values}")
 
 
-def under_load(server, port, seconds):
+def under_load(server: subprocess.Popen[str], port: int, seconds: int) -> tuple[str, list[int]]:
     """The line of LOAD, and the resident memory in each second."""
     paths = [f"/t{n}" for n in range(told.tenants)]
     limits = ["-c", "64", "-d", str(seconds), "-r", str(told.rate), "-m", f"{PATIENCE}000"]
@@ -121,10 +124,10 @@ def under_load(server, port, seconds):
     over.set()
     for it in threads:
         it.join()
-    return load.stdout.read().strip(), memory
+    return load.communicate()[0].strip(), memory
 
 
-def fill():
+def fill() -> None:
     """The tenants that stay."""
     for n in range(told.tenants):
         patient(f"t{n}")
@@ -136,11 +139,11 @@ def fill():
         (FOLDER / f"{name}.conf").write_text(f"fuel 3000000\ndeadline {PATIENCE}000\n")
 
 
-def main():
+def main() -> None:
     port = common.ports.free_port()
     fill()
     server = subprocess.Popen([told.edge, "-p", str(port), "-w", str(told.threads), FOLDER], stdout=subprocess.PIPE, text=True, env=EXACT)
-    reader = threading.Thread(target=read_log, args=(server,))
+    reader = threading.Thread(target=read_log, args=(server.stdout,))
     reader.start()
     try:
         common.listening(server, port)

@@ -1,2 +1,2 @@
-def work(op, data):
+def work(op: int, data: bytes) -> bytes:
     return bytes(65536)

@@ -1,2 +1,2 @@
-def work(op, data):
-    return 1 // 0
+def work(op: int, data: bytes) -> bytes:
+    return bytes(1 // 0)

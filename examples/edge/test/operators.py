@@ -118,8 +118,9 @@ def both() -> None:
         s.wants("by the first socket", 200, "hello, you", "/hello", b"you")
         s.listeners = listeners[::-1]
         s.wants("by the second socket", 200, "hello, you", "/hello", b"you")
-        words = [str(it) for it in pathlib.Path(f"/proc/{s.process.pid}/net/tcp").read_text().split()]
-        check(not any(it.endswith(f":{int(s.options[1].split(':')[1]):04X}") for it in words), "an address of -a")
+        files = {os.readlink(it) for it in pathlib.Path(f"/proc/{s.process.pid}/fd").iterdir()}
+        own = [it for it in map(str.split, pathlib.Path("/proc/net/tcp").read_text().splitlines()) if f"socket:[{it[9]}]" in files]
+        check(not any(it[1].endswith(f":{int(s.options[1].split(':')[1]):04X}") for it in own), "an address of -a")
         s.end()
         check(told.recv(100) == b"STOPPING=1" and os.path.exists(listeners[1].getsockname()), "systemd's UNIX socket stays")
 

@@ -169,7 +169,7 @@ class Numbered(Place):
 SPECS, TESTS, SCRIPTED = "crates/imports/specs/Uv.antt", "crates/test_modules/src/linking.rt", "trials/scripts/guest.c"
 NAMED, STEPS, MOVES, HOST = ("crates/imports/proofs/Named.antt", "crates/phases/specs/Host.antt", "crates/phases/proofs/CallMoves.antt",
                              "crates/phases/src/loop_host.rt")
-WORK, WORK_HOST = "crates/order/specs/Work.antt", "crates/order/src/host.rt"
+WORK, WORK_HOST = "crates/order/specs/Work.antt", "crates/order/src/uv/answering.rt"
 FUZZ, FUEL, MODEL = "trials/fuzz/generate.mjs", "bench/fuel/run.py", "trials/scripts/model.py"
 PLACES = [
     Place(CALLS, {"*": "/// {about}.\n{variant},"}, r"^ *(?P<key>\w+),$", r"pub enum Call \{"),
@@ -185,7 +185,7 @@ PLACES = [
           r"^ *call_made (?P<key>(?!_)\w+)(?P<text>)", "call_made : ", r"\n  call_made _|\n\n", long=True),
     Place(HOST, {"*": "Call::{variant} => .."}, r"^ *Call::(?P<key>\w+) =>(?P<text>)", "let answer = match call", r"\n    \};"),
     Place(WORK, {"work": "WorkAnswers .. {variant} .."}, r"^WorkAnswers (?:bytes reply call reply'|\.\.) (?P<key>(?!_)\w+)(?P<text>)", "WorkAnswers : "),
-    Place(WORK_HOST, {"work": "Call::{variant} => .."}, r"^ *Call::(?P<key>\w+) =>(?P<text>)", "let answer = match call", r"\n        \};"),
+    Place(WORK_HOST, {"work": "Call::{variant} => .."}, r"^ *Call::(?P<key>\w+) =>(?P<text>)", "    match call", r"\n    \}"),
     Place(TESTS, {"*": "{name} = {name} [{takes}] [{gives}]"}, r"^ *(?P<key>\w+) = [^\n]*\]$", 'const TABLE: &str = "', '";'),
     Place(RUST, {"*": "pub fn {name}({rust}) -> {rust_answer};"}, r"^ *pub fn (?P<key>\w+)\((?P<text>)[^;]*;", "wasm_import_module", r"\n    \}"),
     Place(RUST, {"queue_work|in_copy|out_set": None, "*": "{name}({rust}) -> {rust_answer};"}, r"^ *(?P<key>\w+)\((?P<text>)[^;]*;", r"safe_calls! \{"),
@@ -362,7 +362,7 @@ PLANTED = [
     ("the calls of work", HEADER, "every call but uv_in_len, ", "every call but "),
     ("a variant that isn't taken", STEPS, r"\{IsActive, Close,", "{IsActive,"),
     ("a number that isn't that of its place", "crates/imports/proofs/Named.antt", "place_of_call Emit = 20", "place_of_call Emit = 19"),
-    ("a call that work doesn't answer", WORK_HOST, r"            Call::InLen => .*\n", ""),
+    ("a call that work doesn't answer", WORK_HOST, r"        Call::InLen => .*\n", ""),
     ("a type in a trial", FUZZ, r"emit: \[\[I64", "emit: [[I32"),
     ("a type in a bench", FUEL, r'"emit": \(\[I64', '"emit": ([I32'),
     ("the number of calls", "docs/GUESTS.md", "21 functions", "22 functions"),

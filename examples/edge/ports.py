@@ -1,5 +1,6 @@
-"""A port for a server of a test, and whether a server listens there."""
+"""A port for a server of a test, whether a server listens there, and a client of a UNIX socket."""
 import contextlib
+import http.client
 import socket
 
 
@@ -16,3 +17,16 @@ def connects(port: int) -> bool:
         socket.create_connection(("127.0.0.1", port), 60, ("127.0.0.2", 0)).close()
         return True
     return False
+
+
+class UnixConnection(http.client.HTTPConnection):
+    """A client of a UNIX socket, which waits so many seconds."""
+
+    def __init__(self, path: str, seconds: float = 120) -> None:
+        super().__init__("x", timeout=seconds)
+        self.path = path
+
+    def connect(self) -> None:
+        self.sock = socket.socket(socket.AF_UNIX)
+        self.sock.settimeout(self.timeout)
+        self.sock.connect(self.path)

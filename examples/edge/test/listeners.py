@@ -10,8 +10,8 @@ import stat
 import subprocess
 import tempfile
 
-from ports import free_port
-from server import EDGE, UnixConnection, Server, check, read_head, until
+from ports import UnixConnection, free_port
+from server import EDGE, Server, check, read_head, until
 
 GET = b"GET /-/nothing HTTP/1.1\r\nHost: x\r\n\r\n"
 SHARE = 3  # connections that an address may have of 20, if it is the only one

@@ -15,8 +15,8 @@ import time
 from collections.abc import Iterator
 from typing import IO
 
-from ports import free_port
-from server import EDGE, ENDLESS, Server, UnixConnection, broken_too, check, read_all, until
+from ports import UnixConnection, free_port
+from server import EDGE, ENDLESS, Server, broken_too, check, read_all, until
 
 # Starts a program as systemd does: argv has the descriptors, -- and the program's words.
 AS_SYSTEMD = """import fcntl, os, sys

@@ -58,19 +58,6 @@ def until(what: str, done: Callable[[], object], seconds: float = 60) -> None:
         time.sleep(0.05)
 
 
-class UnixConnection(http.client.HTTPConnection):
-    """A client of a UNIX socket."""
-
-    def __init__(self, path: str) -> None:
-        super().__init__("x", timeout=120)
-        self.path = path
-
-    def connect(self) -> None:
-        self.sock = socket.socket(socket.AF_UNIX)
-        self.sock.settimeout(self.timeout)
-        self.sock.connect(self.path)
-
-
 class Server:
     """The program on a folder of its own and a free port. Deadlines are long by default: a busy machine is no failure."""
 

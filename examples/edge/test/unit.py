@@ -11,7 +11,6 @@ import pathlib
 import re
 import shutil
 import signal
-import socket
 import subprocess
 import sys
 import tempfile
@@ -20,6 +19,9 @@ import time
 from collections.abc import Callable
 
 from image import HERE, debian, run
+
+sys.path.insert(0, str(HERE.parent))
+from ports import UnixConnection  # noqa: E402
 
 BOOT = """
 mount --make-rprivate /
@@ -38,17 +40,6 @@ pivot_root . mnt
 umount -l /mnt
 exec env -i container=unshare PATH=/usr/sbin:/usr/bin /lib/systemd/systemd --unit=multi-user.target < /dev/null > /dev/null 2>&1
 """
-
-
-class UnixConnection(http.client.HTTPConnection):
-    def __init__(self, path: str) -> None:
-        super().__init__("x", timeout=60)
-        self.path = path
-
-    def connect(self) -> None:
-        self.sock = socket.socket(socket.AF_UNIX)
-        self.sock.settimeout(self.timeout)
-        self.sock.connect(self.path)
 
 
 class System:
@@ -109,7 +100,7 @@ def asked(link: http.client.HTTPConnection) -> tuple[int, bytes]:
 def links(system: System) -> list[http.client.HTTPConnection]:
     """A client of each socket of edge.socket."""
     return [http.client.HTTPConnection("127.0.0.1", 8080, timeout=60), http.client.HTTPConnection("::1", 8080, timeout=60),
-            UnixConnection(f"/proc/{system.pid}/root/run/edge.sock")]
+            UnixConnection(f"/proc/{system.pid}/root/run/edge.sock", 60)]
 
 
 def restarted(system: System) -> int:

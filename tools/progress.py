@@ -20,11 +20,18 @@ ENDED = re.compile(r"^rt: (\w+)(: its tests are)? (?:(proved)|(NOT PROVED)|is (k
 TRIED = re.compile(r"^(\w+)/\w\S*: (refused|NOT REFUSED.*|BAD EDIT|NOT TRIED): ")
 
 
-def times() -> Tuple[float, float]:
-    """The processors' idle seconds, and all."""
+class Times(NamedTuple):
+    """The processors' seconds: those that were idle, those that a virtual machine's host gave to others, and all."""
+
+    idle: float
+    stolen: float
+    all: float
+
+
+def times() -> Times:
     with open("/proc/stat") as file:
         fields = [int(it) / TICKS for it in file.readline().split()[1:9]]
-    return fields[3] + fields[4], sum(fields)
+    return Times(fields[3] + fields[4], fields[7], sum(fields))
 
 
 def processes() -> Dict[int, Tuple[int, str, float]]:

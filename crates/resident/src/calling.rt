@@ -87,6 +87,7 @@ fn returned(answer: Option<Value>) -> Ended
 }
 
 /// Begins a call on this machine. Nothing of it runs yet.
+#[inline(always)]
 fn begin_call(machine: &mut Machine, valid: &Valid, state: &State, call: &FunctionCall) -> CallPlace
     requires runs { MachineFits valid.now.contents machine.old }
     requires store { IsStoreOf valid.now.contents state.now }
@@ -175,8 +176,9 @@ fn place_answer(answer: Option<Value>, results: &mut [Value])
 }
 
 impl Resident {
-    /// Begins a call of a function, to be made in slices. Nothing of it runs yet. No memory is taken: the instance has the room of its calls.
-    #[inline(always)]
+    /// Begins a call of a function, to be made in slices. Nothing of it runs yet. No memory is taken: the instance has the room of its calls. It
+    /// stands in its own place: so the call is written where it is kept, and a slice reads it there.
+    #[inline(never)]
     pub fn begin(self, function: u32, args: &[Value], fuel: u64, depth: u32) -> Calling
         requires typed { TakesArguments self.loaded.contents function args.now }
         requires depth { (1 ≤ depth) × (depth ≤ MAX_DEPTH) }

@@ -2,14 +2,18 @@
 
 ghost use Rattle.std.specs.Prelude.{◌≡◌, ◌≤◌, ◌<◌};
 ghost use Rattle.interp.specs.declared.paused.TheConstants.{UNIT_BYTES};
+ghost use Rattle.order.specs.Orders.{end_of};
+ghost use Rattle.order.specs.Work.{NoMemory};
+ghost use Rattle.order.specs.declared.run.Told.{Told as WasTold};
+ghost use Rattle.order.specs.declared.running.OrderGoing.TheVariants as going;
 ghost use Rattle.wasmloop_c.specs.Calls.{OnHandle};
-ghost use Rattle.wasmloop_c.specs.Slices.{BeginsJob, LeftBy, RunsFor, RunsStageFor};
+ghost use Rattle.wasmloop_c.specs.Slices.{HadNoMemory, LeftBy, RunsFor, RunsStageFor};
 
 use crate::handle::{Handle, on};
 use crate::job::RunnableOrder;
 use crate::status::{KIND, OK, RANGE};
 use crate::thing::{JobStage, Thing};
-use order::{OrderGoing, Told};
+use order::{OrderGoing, Reply, Told};
 use std::alloc::Global;
 use std::mem::replace;
 
@@ -18,43 +22,51 @@ pub fn unit_is_64_bytes()
     ensures { UNIT_BYTES ≡ 64 }
 {}
 
-/// The first slice of a job.
-fn begin(alloc: Global, job: RunnableOrder, units: u64) -> OrderGoing
-    requires { 1 ≤ units }
-    ensures { BeginsJob job units result }
-{
-    match job.begin(alloc) {
-        Ok(running) => running.go_on(units),
-        Err(reply) => OrderGoing::Over(Told {
-            reply,
-            used: 0,
-            trail: None,
-        }),
-    }
-}
-
-/// What a slice leaves of a job, and whether the job is over.
-fn left_by(going: OrderGoing) -> (JobStage, u32)
-    ensures { LeftBy going result.0 result.1 }
+/// What a slice leaves of a job, which is told as over or not.
+fn left_by(going: OrderGoing, over: &mut u32) -> JobStage
+    ensures { LeftBy going result over.new }
 {
     match going {
-        OrderGoing::Over(told) => (JobStage::Answered(told), 1),
-        OrderGoing::Paused(running) => (JobStage::Running(running), 0),
+        OrderGoing::Over(told) => {
+            *over = 1;
+            JobStage::Answered(told)
+        }
+        OrderGoing::Paused(running) => {
+            *over = 0;
+            JobStage::Running(running)
+        }
     }
 }
 
+/// What is left of a job for which there was no memory, and which is over so.
+#[cold]
+#[inline(never)]
+fn refused(reply: Reply, over: &mut u32) -> JobStage
+    requires { end_of reply.outcome ≡ NoMemory }
+    ensures { (told : WasTold) × HadNoMemory reply.order told × LeftBy (going.Over told) result over.new }
+{
+    let told = Told {
+        reply,
+        used: 0,
+        trail: None,
+    };
+    left_by(OrderGoing::Over(told), over)
+}
+
+// A first slice goes on where a later one does, so that the run of a slice is compiled once.
 fn stage_for(alloc: Global, stage: JobStage, units: u64, over: &mut u32) -> (JobStage, u32)
     requires { 1 ≤ units }
     ensures { RunsStageFor stage result.0 units over.old over.new result.1 }
 {
-    let going = match stage {
-        JobStage::Asked(job) => begin(alloc, job, units),
-        JobStage::Running(running) => running.go_on(units),
+    let running = match stage {
+        JobStage::Asked(job) => match job.begin(alloc) {
+            Ok(running) => running,
+            Err(reply) => return (refused(reply, over), OK),
+        },
+        JobStage::Running(running) => running,
         other => return (other, KIND),
     };
-    let (left, is_over) = left_by(going);
-    *over = is_over;
-    (left, OK)
+    (left_by(running.go_on(units), over), OK)
 }
 
 fn run_for(alloc: Global, thing: &mut Thing, units: u64, over: &mut u32) -> u32

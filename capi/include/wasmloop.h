@@ -128,10 +128,10 @@ enum { WASMLOOP_HOLDS_NOTHING, WASMLOOP_HOLDS_MODULE, WASMLOOP_HOLDS_JOB, WASMLO
 /* Writes what a handle holds to *kind. An instance is paused from the begin of a call to its end. */
 int wasmloop_kind(const wasmloop_handle *handle, uint32_t *kind);
 
-/* Writes how many bytes an object has to *bytes. Of a module its own bytes; of a job its input and its reply; of an instance or a loop the memory as
- * large as it is now, 8 for each element of the table, 525,320 for the slots and callers of its calls, and an instance's last reply. What is left out:
- * some KiB of small parts, what a module is decoded into, what the requests of a loop have, and the address space up to the memory's maximum size,
- * for which the system gives nothing before the memory grows. KIND: a job is paused. */
+/* Writes how many bytes an object has to *bytes. Of a module its own bytes; of a job its input and its reply, for which a paused one has 65,536; of an
+ * instance, a loop or a paused job the memory as large as it is now, 8 for each element of the table, 525,320 for the slots and callers of its calls;
+ * and an instance's last reply. What is left out: some KiB of small parts, what a module is decoded into, what the requests of a loop have, and the
+ * address space up to the memory's maximum size, for which the system gives nothing before the memory grows. */
 int wasmloop_held(const wasmloop_handle *handle, uint64_t *bytes);
 
 /* Releases the object of a handle of any kind. EMPTY: there was none. Afterwards you may free or reuse the struct. */
@@ -262,7 +262,7 @@ int wasmloop_call(wasmloop_handle *instance, const char *name, const uint64_t *a
  * no such export. */
 int wasmloop_call_at(wasmloop_handle *instance, uint64_t number, const uint64_t *args, size_t count, const wasmloop_call_limits *limits, wasmloop_ended *ended);
 
-/* Begins a call by name, to be run in slices. It runs nothing yet, and does all the allocation. NONE, ARGUMENTS, RANGE: as for wasmloop_call.
+/* Begins a call by name, to be run in slices. It runs nothing yet, and allocates only for more than 8 arguments. NONE, ARGUMENTS, RANGE: as for wasmloop_call.
  * Until the call is over you may drop the instance and inspect it: wasmloop_size, wasmloop_read, wasmloop_global, and wasmloop_stop,
  * wasmloop_stop_places and wasmloop_stop_told, which report where it stands. Every other call on it but wasmloop_call_run_for
  * and wasmloop_call_end returns KIND. */

@@ -697,8 +697,7 @@ static void memory(slot *it) {
     for (uint32_t i = 0; i < length; i++) written[i] = (uint8_t)draw();
     told("size", CALL(wasmloop_size(&it->handle, &bytes)), wanted);
     uint64_t held = 0;
-    int is_told = it->kind != NOTHING && it->kind != PAUSED;
-    if (told("held", CALL(wasmloop_held(&it->handle, &held)), is_told ? WASMLOOP_OK : it->kind ? WASMLOOP_KIND : WASMLOOP_EMPTY) && has_instance(it))
+    if (told("held", CALL(wasmloop_held(&it->handle, &held)), it->kind ? WASMLOOP_OK : WASMLOOP_EMPTY) && has_instance(it))
         is("the bytes of an instance", held >= bytes + 8 * (65536 + 1 + 128) && held <= bytes + 8 * (65536 + 1 + 128 + 4096) + 65536, 1);
     uint32_t at = below(4) && bytes ? below((uint32_t)bytes) : draw();
     int is_past = (uint64_t)at + length > bytes;

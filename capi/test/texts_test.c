@@ -143,7 +143,7 @@ static uint64_t held(const wasmloop_handle *handle, int status) {
 /* The slots and callers of an instance's calls. */
 enum { CALLS = 8 * (65536 + 1 + 128) };
 
-/* A module has its bytes, a job its input and its reply, and an instance or a loop its memory, its table and the room of its calls. */
+/* A module has its bytes, a job its input and its reply, and an instance, a loop or a paused job its memory, its table and the room of its calls. */
 static void bytes_held(void) {
     wasmloop_handle module = module_of("crc32.wasm"), it = WASMLOOP_HANDLE_INIT, job = WASMLOOP_HANDLE_INIT, loop = WASMLOOP_HANDLE_INIT;
     wasmloop_handle none = WASMLOOP_HANDLE_INIT;
@@ -162,7 +162,7 @@ static void bytes_held(void) {
     IS(held(&job, WASMLOOP_OK), 1000);
     IS(wasmloop_job_run_for(&job, 10, &over), WASMLOOP_OK);
     IS(over, 0);
-    held(&job, WASMLOOP_KIND);
+    uint64_t paused = held(&job, WASMLOOP_OK);
     IS(wasmloop_job_run(&job), WASMLOOP_KIND);
     IS(wasmloop_job_run_for(&job, 1000000, &over), WASMLOOP_OK);
     IS(wasmloop_job_about(&job, &about), WASMLOOP_OK);
@@ -174,6 +174,7 @@ static void bytes_held(void) {
     IS(wasmloop_size(&it, &size), WASMLOOP_OK);
     uint64_t rest = held(&it, WASMLOOP_OK) - size;
     IS(rest >= CALLS && rest < CALLS + 8 * 4096, 1);
+    IS(paused, 1000 + 65536 + size + rest);
     IS(wasmloop_call_begin(&it, "uv_work", (uint64_t[]){ 0 }, 1, &call_limits), WASMLOOP_OK);
     IS(held(&it, WASMLOOP_OK), size + rest);
     IS(wasmloop_call_end(&it, &ended), WASMLOOP_OK);

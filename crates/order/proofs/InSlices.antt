@@ -132,10 +132,10 @@ came_to o valid tables agree s t old new args fuel paused slots frames serves c 
     (served o it.0 old new serves it.1).serves
 
 -- an order that went on with what was left of a slice went on for the whole slice
-module _ (o : WorkOrder) (used now copied copied' units rest : ℕ) (later : used ≤ now) (within : now ≤ used + units) (is : rest ≡ units - (now - used))
+module _ (o : WorkOrder) (used now copied copied' units rest : ℕ) (s t : Store) (later : used ≤ now) (within : now ≤ used + units) (is : rest ≡ units - (now - used))
     (more : copied ≤ copied') (few : MAX_BYTES * used + copied' ≤ MAX_BYTES * now + copied) where
-  pub goes_on_from : (going : OrderGoing) → OrderGoesOn (record { order = o; used = now; copied = copied' }) rest going
-      → OrderGoesOn (record { order = o; used = used; copied = copied }) units going
+  pub goes_on_from : (going : OrderGoing) → OrderGoesOn (record { order = o; used = now; copied = copied'; store = t }) rest going
+      → OrderGoesOn (record { order = o; used = used; copied = copied; store = s }) units going
   goes_on_from (Over told) h =
       let since = h.since in
       let slice = h.slice in
@@ -162,9 +162,22 @@ module _ (o : WorkOrder) (used now copied copied' units rest : ℕ) (later : use
         left = h.left;
       }
 
--- so many units and bytes, however they are written
-pub goes_on_same : (o : WorkOrder) (used used' copied copied' units : ℕ) (going : OrderGoing) → used' ≡ used → copied' ≡ copied
-    → OrderGoesOn (record { order = o; used = used'; copied = copied' }) units going → OrderGoesOn (record { order = o; used = used; copied = copied }) units going
-goes_on_same o used used' copied copied' units going same also h =
-    subst (λ (n : ℕ). OrderGoesOn (record { order = o; used = n; copied = copied }) units going) same
-    (subst (λ (n : ℕ). OrderGoesOn (record { order = o; used = used'; copied = n }) units going) also h)
+-- so many units and bytes, however they are written, and whatever the instance was before
+pub goes_on_same : (o : WorkOrder) (used used' copied copied' units : ℕ) (s t : Store) (going : OrderGoing) → used' ≡ used → copied' ≡ copied
+    → OrderGoesOn (record { order = o; used = used'; copied = copied'; store = t }) units going
+    → OrderGoesOn (record { order = o; used = used; copied = copied; store = s }) units going
+goes_on_same o used used' copied copied' units s t (Over told) same also h =
+    subst (λ (n : ℕ). OrderGoesOn (record { order = o; used = n; copied = copied; store = s }) units (Over told)) same h
+goes_on_same o used used' copied copied' units s t (PausedAgain after) same also h =
+    let some = h.some in
+    let most = h.most in
+    let all = h.all in
+    let few = h.few in
+    record {
+      order = h.order;
+      some = omega (arith, some, same);
+      most = omega (arith, most, same);
+      all = omega (arith, all, same, also);
+      few = omega (arith, few, same, also);
+      left = h.left;
+    }

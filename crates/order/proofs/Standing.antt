@@ -51,7 +51,7 @@ module _ (o : WorkOrder) (m : WorkMachine) (paused : Paused) where
   module _ (q : IsStarting o m paused) where
     starts_by : (last : Option Last)
         → RunStandsAt o.loaded.contents paused.depth WorkAnswered paused.function q.s q.old [] paused.used m.state m.host last m.machine.frames.items
-        → OrderStandsAt (record { order = o; used = paused.used; copied = m.host.copied }) (stop_of last m.machine.frames.items)
+        → OrderStandsAt (record { order = o; used = paused.used; copied = m.host.copied; store = m.state }) (stop_of last m.machine.frames.items)
     starts_by None stands = stands
     starts_by (Some last) stands =
         let ran : WorkStop (with_fuel paused.used o) paused.used q.s [] paused.function [] (record { ending = ending.Spent; used = paused.used })
@@ -62,7 +62,7 @@ module _ (o : WorkOrder) (m : WorkMachine) (paused : Paused) where
         stopping.stops q.s m.state (record { ending = ending.Spent; used = paused.used }) m.host.reply.items paused.function q.fresh q.is_start ran
         (not_returned ending.Spent (λ values e. absurd (cc))) refl refl
 
-    pub starting_stands : OrderStandsAt (record { order = o; used = paused.used; copied = m.host.copied }) (stop_of paused.last m.machine.frames.items)
+    pub starting_stands : OrderStandsAt (record { order = o; used = paused.used; copied = m.host.copied; store = m.state }) (stop_of paused.last m.machine.frames.items)
     starting_stands = starts_by paused.last q.calling.under_way.stands
 
     pub starting_within : MAX_DEPTH ≤ length m.machine.frames.items → IfSome paused.last (λ l. l.depth ≤ length m.machine.frames.items)
@@ -76,7 +76,7 @@ module _ (o : WorkOrder) (m : WorkMachine) (paused : Paused) where
   module _ (first : ℕ) (q : IsWorking o m first paused) where
     works_by : (last : Option Last) → IsSome last
         → RunStandsAt o.loaded.contents paused.depth WorkAnswered paused.function q.t q.old (I32 o.op ∷ []) paused.used m.state m.host last m.machine.frames.items
-        → OrderStandsAt (record { order = o; used = first + paused.used; copied = m.host.copied }) (stop_of last m.machine.frames.items)
+        → OrderStandsAt (record { order = o; used = first + paused.used; copied = m.host.copied; store = m.state }) (stop_of last m.machine.frames.items)
     works_by None some stands = absurd (cc)
     works_by (Some last) some stands =
         let n : ℕ = first + paused.used in
@@ -91,7 +91,7 @@ module _ (o : WorkOrder) (m : WorkMachine) (paused : Paused) where
         paused.function q.started.fresh
         (started_with o n o.loaded.contents.start q.started.s q.t q.started.results first q.old.reply.items few q.started.run) q.exported ran refl refl
 
-    pub working_stands : IsSome paused.last → OrderStandsAt (record { order = o; used = first + paused.used; copied = m.host.copied }) (stop_of paused.last m.machine.frames.items)
+    pub working_stands : IsSome paused.last → OrderStandsAt (record { order = o; used = first + paused.used; copied = m.host.copied; store = m.state }) (stop_of paused.last m.machine.frames.items)
     working_stands some = works_by paused.last some q.calling.under_way.stands
 
     pub working_within : MAX_DEPTH ≤ length m.machine.frames.items → IfSome paused.last (λ l. l.depth ≤ length m.machine.frames.items)

@@ -1,6 +1,7 @@
 -- What a slice leaves of an order under way.
 use Rattle.std.specs.Prelude.{◌≡◌, ◌≢◌, ℕ, ◌+◌, ◌-◌, ◌*◌, ◌<◌, ◌≤◌, min, Option, Some, None}
 use Rattle.limits.specs.declared.TheConstants.{MAX_BYTES}
+use Rattle.instance.specs.Fresh.{fresh_store}
 use Rattle.instance.specs.Stops.{Halt}
 use Rattle.interp.specs.declared.paused.TheConstants.{UNIT_BYTES}
 use Rattle.order.specs.declared.run.Told.{Told}
@@ -10,6 +11,10 @@ use Rattle.order.specs.Orders.{order_of, end_of}
 use Rattle.order.specs.Stopping.{ComputesTo, LeavesTrail}
 use Rattle.order.specs.Underway.{Underway}
 use Rattle.order.specs.Work.{WorkOrder, NoMemory, Spent, Uses}
+
+-- an order of which nothing has run: its instance is a new one
+abbrev pub unbegun : WorkOrder → Underway
+unbegun o = record { order = o; used = 0; copied = 0; store = fresh_store o.loaded.contents }
 
 -- The order is over, and there was memory. What is answered is what is answered for a run of the whole order: its reply's type says of what becomes
 -- of it that one thread computes it, and so much fuel is used for it in all, of which the slice used at most its units.

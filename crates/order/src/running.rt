@@ -18,7 +18,7 @@ ghost use Rattle.order.specs.Orders.{order_of, end_of};
 ghost use Rattle.order.specs.Work.{WorkEnd, NoMemory, EndsAs, Computes, Uses};
 ghost use Rattle.order.specs.Stopping.{ComputesTo, LeavesTrail};
 ghost use Rattle.order.specs.Runnable.{CanRun};
-ghost use Rattle.order.specs.Slices.{OrderGoesOn, OrderStandsAt};
+ghost use Rattle.order.specs.Slices.{OrderGoesOn, OrderStandsAt, unbegun};
 ghost use Rattle.order.specs.Inner.Ready.{IsReadyToRun};
 ghost use Rattle.order.specs.Inner.Serving.{Serves};
 ghost use Rattle.order.specs.Inner.Going.{RunsOrder, IsUnbegun, IsStarting, StartIsOver, IsWorking, used_in_stage};
@@ -35,13 +35,14 @@ use events::ended::BareEnding;
 use imports::EntryPoint;
 use imports::laws::names_are_apart;
 use instance::stack::{CallStack, Stop};
+use instance::state::State;
 use interp::slices::{Paused, Slice};
 use std::alloc::Global;
 use std::marker::Model;
 use syntax::types::Value;
 
 /// An order under way, between two slices. It may be kept, given to another thread, or dropped at any time. Contracts see the order, how
-/// many units of fuel it has used so far, and how many bytes `in_copy` and `out_set` have copied for it.
+/// many units of fuel it has used so far, how many bytes `in_copy` and `out_set` have copied for it, and its instance as it stands.
 #[derive(Drop)]
 pub struct Running {
     order: Order,
@@ -60,7 +61,7 @@ impl Model for Running {
 
     ghost coded = { Prim.hlevel (codes, loaded_coded) };
 
-    ghost view = { λ r. record { order = order_of r.order; used = used_in_stage r.stage; copied = r.machine.host.copied } };
+    ghost view = { λ r. record { order = order_of r.order; used = used_in_stage r.stage; copied = r.machine.host.copied; store = r.machine.state } };
 
     ghost invariant = { λ r. IsGoing (order_of r.order) r.machine r.stage };
 }
@@ -81,7 +82,7 @@ impl Order {
         requires work { (f : ℕ) × ExportsFunction (arc_value self.module).contents (codes "uv_work") f }
         requires bytes { length (arc_value self.bytes).items ≤ MAX_BYTES }
         requires depth { (1 ≤ self.depth) × (self.depth ≤ MAX_DEPTH) }
-        ensures begun { IfOk result (λ r. r ≡ record { order = order_of self; used = 0; copied = 0 }) }
+        ensures begun { IfOk result (λ r. r ≡ unbegun (order_of self)) }
         ensures refused { IfErr result (λ reply. (reply.order ≡ self) × (end_of reply.outcome ≡ NoMemory)) }
     {
         let reserved = reserve_parts(alloc, &self.module, &self.bytes);
@@ -98,7 +99,7 @@ impl Order {
         requires fits { IfOk reserved (λ r. MachineFits (arc_value self.module).contents r.machine) }
         requires linked { IfOk reserved (λ r. arc_value r.linked ≡ arc_value self.module) }
         requires input { IfOk reserved (λ r. arc_value r.input ≡ arc_value self.bytes) }
-        ensures begun { IfOk result (λ r. r ≡ record { order = order_of self; used = 0; copied = 0 }) }
+        ensures begun { IfOk result (λ r. r ≡ unbegun (order_of self)) }
         ensures refused { IfErr result (λ reply. (reply.order ≡ self) × (end_of reply.outcome ≡ NoMemory)) }
     {
         match reserved {
@@ -162,6 +163,13 @@ impl Running {
         ensures { result ≡ self.now.used }
     {
         used_at(self.order.fuel, &self.stage)
+    }
+
+    /// Its instance as it stands.
+    pub fn store(&self) -> &State
+        ensures { result.now ≡ self.now.store }
+    {
+        &self.machine.state
     }
 
     /// The bytes of its module.
@@ -236,7 +244,7 @@ fn over(order: Order, machine: WorkMachine, ending: BareEnding, value: Value, us
 fn begin_start(order: Order, machine: WorkMachine, units: u64) -> OrderGoing
     requires runs { RunsOrder (order_of order) machine }
     requires unbegun { IsUnbegun (order_of order) machine }
-    ensures { OrderGoesOn (record { order = order_of order; used = 0; copied = machine.host.copied }) units result }
+    ensures { OrderGoesOn (record { order = order_of order; used = 0; copied = machine.host.copied; store = machine.state }) units result }
 {
     let Some(function) = order.module.valid().contents().start else {
         return begin_work(order, machine, 0, units);
@@ -250,7 +258,7 @@ fn begin_start(order: Order, machine: WorkMachine, units: u64) -> OrderGoing
 fn start_on(order: Order, machine: WorkMachine, paused: Paused, units: u64) -> OrderGoing
     requires runs { RunsOrder (order_of order) machine }
     requires starting { IsStarting (order_of order) machine paused }
-    ensures { OrderGoesOn (record { order = order_of order; used = paused.used; copied = machine.host.copied }) units result }
+    ensures { OrderGoesOn (record { order = order_of order; used = paused.used; copied = machine.host.copied; store = machine.state }) units result }
 {
     let mut machine = machine;
     let mut slice = Slice { paused, units };
@@ -276,7 +284,7 @@ fn begin_work(order: Order, machine: WorkMachine, first: u64, units: u64) -> Ord
     requires store { IsStoreOf (arc_value order.module).contents machine.state }
     requires serves { Serves machine.host (order_of order) }
     requires started { StartIsOver (order_of order) first machine.state machine.host.reply.items }
-    ensures { OrderGoesOn (record { order = order_of order; used = first; copied = machine.host.copied }) units result }
+    ensures { OrderGoesOn (record { order = order_of order; used = first; copied = machine.host.copied; store = machine.state }) units result }
 {
     let Some(function) = order.module.entry(EntryPoint::Work) else {
         unreachable!();
@@ -295,7 +303,7 @@ fn begin_work(order: Order, machine: WorkMachine, first: u64, units: u64) -> Ord
 fn work_on(order: Order, machine: WorkMachine, first: u64, paused: Paused, units: u64) -> OrderGoing
     requires runs { RunsOrder (order_of order) machine }
     requires working { IsWorking (order_of order) machine first paused }
-    ensures { OrderGoesOn (record { order = order_of order; used = first + paused.used; copied = machine.host.copied }) units result }
+    ensures { OrderGoesOn (record { order = order_of order; used = first + paused.used; copied = machine.host.copied; store = machine.state }) units result }
 {
     let mut machine = machine;
     let mut slice = Slice { paused, units };

@@ -1,10 +1,12 @@
 -- How many bytes a handle's object has: those that grow with what its guest does, and the large ones that it has from the start.
 use Rattle.std.specs.Prelude.{◌≡◌, ◌+◌, ◌*◌, ℕ, length, Option, Some, None, MatchOption, option_map}
 use Rattle.std.specs.Arc.{arc_value}
+use Rattle.limits.specs.declared.TheConstants.{MAX_BYTES}
 use Rattle.syntax.specs.Loaded.{Loaded}
 use Rattle.validate.specs.Segments.{minimum}
 use Rattle.instance.specs.Store.{Store}
 use Rattle.order.specs.Orders.{order_of}
+use Rattle.order.specs.Underway.{Underway}
 use Rattle.order.specs.declared.order.Outcome.{Outcome}
 use Rattle.order.specs.declared.order.Outcome.TheVariants as outcome
 use Rattle.wasmloop_c.specs.declared.holding.TheConstants.{PLACE_BYTES, CALLS_BYTES}
@@ -39,11 +41,16 @@ abbrev pub reply_length : Outcome → ℕ
 reply_length (outcome.Done value bytes) = length bytes.items
 reply_length _ = 0
 
--- a job that has not begun or is over: its input and its reply
+-- a job under way: its input, the room for its reply, and its instance
+abbrev pub held_by_run : Underway → ℕ
+held_by_run r = length r.order.bytes + (MAX_BYTES + held_by_store r.order.loaded r.store)
+
+-- a job: its input, and its reply once it is over
 abbrev pub held_by_job : JobStage → Option ℕ
 held_by_job (job.Asked it) = Some (length (order_of it).bytes)
+held_by_job (job.Running it) = Some (held_by_run it)
 held_by_job (job.Answered it) = Some (length (order_of it.reply.order).bytes + reply_length it.reply.outcome)
-held_by_job _ = None
+held_by_job job.Gone = None
 
 -- a module: its bytes
 abbrev pub held_by : Thing → Option ℕ
@@ -53,6 +60,6 @@ held_by (thing.Instance it reply) = option_map (λ n. n + length reply.items) (h
 held_by (thing.Loop it callbacks) = held_by_loop it.value
 held_by thing.Gone = None
 
--- it is told, where the object is no paused job
+-- it is told, where there is an object
 abbrev pub TellsHeld : Thing → (old new status : ℕ) → Type 0
 TellsHeld t old new status = MatchOption (held_by t) ((status ≡ KIND) × (new ≡ old)) (λ n. (status ≡ OK) × (new ≡ n))

@@ -1,8 +1,7 @@
 -- What a slice does to the job that its handle has.
 use Rattle.std.specs.Prelude.{◌≡◌, ◌⊎◌, ℕ}
 use Rattle.order.specs.Orders.{order_of, end_of}
-use Rattle.order.specs.Slices.{OrderGoesOn, OrderIsOver, OrderIsPaused}
-use Rattle.order.specs.Underway.{Underway}
+use Rattle.order.specs.Slices.{OrderGoesOn, OrderIsOver, OrderIsPaused, unbegun}
 use Rattle.order.specs.Work.{NoMemory}
 use Rattle.order.specs.declared.order.Order.{Order}
 use Rattle.order.specs.declared.run.Told.{Told}
@@ -14,10 +13,6 @@ use Rattle.wasmloop_c.specs.Calls.{OnJob}
 use Rattle.wasmloop_c.specs.declared.thing.JobStage.{JobStage}
 use Rattle.wasmloop_c.specs.declared.thing.JobStage.TheVariants as stage
 
--- an order that nothing has run of
-abbrev pub unbegun : Order → Underway
-unbegun order = record { order = order_of order; used = 0; copied = 0 }
-
 -- there was no memory to begin it
 pub record HadNoMemory (order : Order) (told : Told) : Type 0 where
   pub same : told.reply.order ≡ order
@@ -27,7 +22,7 @@ pub record HadNoMemory (order : Order) (told : Told) : Type 0 where
 -- the first slice of a job
 abbrev pub BeginsJob : Order → (units : ℕ) → OrderGoing → Type 0
 BeginsJob order units (Over told) = OrderIsOver (order_of order) 0 units told ⊎ HadNoMemory order told
-BeginsJob order units (Paused after) = OrderIsPaused (unbegun order) units after
+BeginsJob order units (Paused after) = OrderIsPaused (unbegun (order_of order)) units after
 
 -- what is left in a job's handle, and whether the job is over
 abbrev pub LeftBy : OrderGoing → JobStage → (over : ℕ) → Type 0

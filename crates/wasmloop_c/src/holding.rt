@@ -3,7 +3,7 @@
 ghost use Rattle.std.specs.Prelude.{◌≡◌, ◌^◌, ◌<◌, length, IfSome};
 ghost use Rattle.order.specs.Orders.{order_of};
 ghost use Rattle.wasmloop_c.specs.Calls.{ReadsHandle};
-ghost use Rattle.wasmloop_c.specs.Holding.{held_by, held_by_call, held_by_job, held_by_loop, held_by_store, reply_length, TellsHeld};
+ghost use Rattle.wasmloop_c.specs.Holding.{held_by, held_by_call, held_by_job, held_by_loop, held_by_run, held_by_store, reply_length, TellsHeld};
 
 use crate::handle::{Handle, on};
 use crate::shape::first_size;
@@ -12,8 +12,8 @@ use crate::thing::{InstanceStage, JobStage, LoopStage, Thing};
 use imports::Linked;
 use instance::stack::Caller;
 use instance::state::State;
-use limits::{MAX_DEPTH, MAX_SLOTS};
-use order::{Order, Outcome, Told};
+use limits::{MAX_BYTES, MAX_DEPTH, MAX_SLOTS};
+use order::{Order, Outcome, Running, Told};
 use std::alloc::Global;
 
 /// How many bytes an element of a table has, and a slot or a caller of a call.
@@ -77,16 +77,26 @@ fn reply_length(outcome: &Outcome) -> usize
     }
 }
 
+/// Of a job under way: its input, the room for its reply, and its instance.
+fn held_by_run(running: &Running) -> u64
+    ensures { result ≡ held_by_run running.now }
+{
+    let order = running.order();
+    let input = input_length(order) as u64;
+    input + (MAX_BYTES as u64 + held_by_store(&order.module, running.store()))
+}
+
 fn held_by_job(stage: &JobStage) -> Option<u64>
     ensures { result ≡ held_by_job stage.now }
 {
     match stage {
         JobStage::Asked(job) => Some(input_length(job.order()) as u64),
+        JobStage::Running(running) => Some(held_by_run(running)),
         JobStage::Answered(Told { reply, .. }) => {
             let input = input_length(&reply.order) as u64;
             Some(input + reply_length(&reply.outcome) as u64)
         }
-        _ => None,
+        JobStage::Gone => None,
     }
 }
 

@@ -5,6 +5,7 @@ ghost use Rattle.limits.specs.declared.TheConstants.{MAX_REQUESTS};
 ghost use Rattle.order.specs.Orders.{order_of, end_of};
 ghost use Rattle.order.specs.Work.{NoMemory, Uses};
 ghost use Rattle.order.specs.Runnable.{CanRun};
+ghost use Rattle.order.specs.Slices.{unbegun};
 
 use order::{Order, Reply, Running, Told};
 use std::alloc::Global;
@@ -63,7 +64,7 @@ impl RunnableOrder {
 
     /// Begins the order, to be run in slices.
     pub fn begin(self, alloc: Global) -> Result<Running, Reply>
-        ensures begun { IfOk result (λ r. r ≡ record { order = order_of self; used = 0; copied = 0 }) }
+        ensures begun { IfOk result (λ r. r ≡ unbegun (order_of self)) }
         ensures refused { IfErr result (λ reply. (reply.order ≡ self) × (end_of reply.outcome ≡ NoMemory)) }
     {
         let RunnableOrder { order } = self;

@@ -35,4 +35,4 @@ start_on-requires-clause-starting c =
 pub returns : goal.returns
 returns c =
     goes_on_same (order_of c.args.order) 0 c.begin-paused.result.used c.args.machine.host.copied c.begin-paused.new.self.host.copied
-    c.args.units c.start_on.result c.begin-paused.ensures.used c.begin-paused.ensures.copied c.start_on.ensures
+    c.args.units c.args.machine.state c.begin-paused.new.self.state c.start_on.result c.begin-paused.ensures.used c.begin-paused.ensures.copied c.start_on.ensures

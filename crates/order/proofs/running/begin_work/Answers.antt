@@ -28,4 +28,4 @@ pub returns : goal.returns
 returns c =
     let none = c.begin-paused.ensures.used in
     goes_on_same (order_of c.args.order) c.args.first (c.args.first + c.begin-paused.result.used) c.args.machine.host.copied c.begin-paused.new.self.host.copied
-    c.args.units c.work_on.result (omega (arith, none)) c.begin-paused.ensures.copied c.work_on.ensures
+    c.args.units c.args.machine.state c.begin-paused.new.self.state c.work_on.result (omega (arith, none)) c.begin-paused.ensures.copied c.work_on.ensures

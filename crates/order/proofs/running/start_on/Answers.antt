@@ -67,4 +67,4 @@ returns c =
     let last = c.in-Some.ensures.last in
     let sum = c.used.ensures in
     goes_on_from (order_of c.args.order) c.args.paused.used c.in-Some.ended.used c.args.machine.host.copied c.go_on.new.self.host.copied c.args.units
-    (c.args.units - (c.in-Some.ended.used - c.used.result)) last.0 last.1 (omega (arith, sum)) c.go_on.ensures.copies last.3 c.begin_work.result c.begin_work.ensures
+    (c.args.units - (c.in-Some.ended.used - c.used.result)) c.args.machine.state c.go_on.new.self.state last.0 last.1 (omega (arith, sum)) c.go_on.ensures.copies last.3 c.begin_work.result c.begin_work.ensures

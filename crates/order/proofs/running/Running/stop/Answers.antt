@@ -25,9 +25,9 @@ returns-in-Starting c =
     let i = c.self.inside in
     let p = c.in-Starting.paused in
     let q : IsStarting (order_of i.order) i.machine p = subst (λ (s : RunStage). IsAtStage (order_of i.order) i.machine s) c.in-Starting.is c.self.invariant.at in
-    let at : Underway = record { order = order_of i.order; used = p.used; copied = i.machine.host.copied } in
+    let at : Underway = record { order = order_of i.order; used = p.used; copied = i.machine.host.copied; store = i.machine.state } in
     let stands : OrderStandsAt at (stop_of p.last i.machine.machine.frames.items) = starting_stands (order_of i.order) i.machine p q in
-    let same : at ≡ c.args.self.now = ap {B = Underway} (λ (s : RunStage). record { order = order_of i.order; used = used_in_stage s; copied = i.machine.host.copied }) (sym c.in-Starting.is) ∙ c.self.view_is in
+    let same : at ≡ c.args.self.now = ap {B = Underway} (λ (s : RunStage). record { order = order_of i.order; used = used_in_stage s; copied = i.machine.host.copied; store = i.machine.state }) (sym c.in-Starting.is) ∙ c.self.view_is in
     subst (λ (r : Underway). OrderStandsAt r c.stop.result) same (subst (λ (stop : Option Halt). OrderStandsAt at stop) (sym c.stop.ensures) stands)
 
 pub returns-in-Working : goal.returns-in-Working
@@ -36,7 +36,7 @@ returns-in-Working c =
     let p = c.in-Working.paused in
     let q : IsWorking (order_of i.order) i.machine c.in-Working.field-0 p × IsSome p.last =
     subst (λ (s : RunStage). IsAtStage (order_of i.order) i.machine s) c.in-Working.is c.self.invariant.at in
-    let at : Underway = record { order = order_of i.order; used = c.in-Working.field-0 + p.used; copied = i.machine.host.copied } in
+    let at : Underway = record { order = order_of i.order; used = c.in-Working.field-0 + p.used; copied = i.machine.host.copied; store = i.machine.state } in
     let stands : OrderStandsAt at (stop_of p.last i.machine.machine.frames.items) = working_stands (order_of i.order) i.machine p c.in-Working.field-0 q.0 q.1 in
-    let same : at ≡ c.args.self.now = ap {B = Underway} (λ (s : RunStage). record { order = order_of i.order; used = used_in_stage s; copied = i.machine.host.copied }) (sym c.in-Working.is) ∙ c.self.view_is in
+    let same : at ≡ c.args.self.now = ap {B = Underway} (λ (s : RunStage). record { order = order_of i.order; used = used_in_stage s; copied = i.machine.host.copied; store = i.machine.state }) (sym c.in-Working.is) ∙ c.self.view_is in
     subst (λ (r : Underway). OrderStandsAt r c.stop-in-Working.result) same (subst (λ (stop : Option Halt). OrderStandsAt at stop) (sym c.stop-in-Working.ensures) stands)

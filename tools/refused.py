@@ -25,7 +25,7 @@ from sources import TOP, Sources as Texts, asked, finish, plant
 
 LIST = "tools/refused.txt"
 WORDS = re.compile(r"\bAllocError\b|\b(?:\w+Fault|Refusal|Refused|Outcome|JobEnd)::(?:Memory|NoMemory)\b|(?<!::)\b(?:MEMORY|NO_MEMORY|NoMemory)\b"
-                   r"|\bRefused(?:Memory|Room) \{")
+                   r"|\bRefused(?:Memory|Room|Text) \{")
 GIVEN_BACK = re.compile(r"\bErr\((?:self|same|core)\)")
 PASSED_ON = re.compile(WORDS.pattern + r"|\bOutOfMemory\b|\bis_memory\(\)")
 ELSE = re.compile(r"\s*[)}\]]*\s*else \{$")

@@ -36,8 +36,8 @@ module _ {S : Type 0} (calls : Calls S) where
     pub few : MAX_BYTES * used_by_step s + t.copied ≤ MAX_BYTES * used_by_step t + s.copied
 
   -- so its callback has used at least one in 1,025 of them
-  abbrev pub SlicesMakeHeadway : Type 0
-  SlicesMakeHeadway = (s t : StepInSlices S) (units : ℕ) → StepIsPaused s units t → units ≤ 1025 * (used_by_step t - used_by_step s)
+  abbrev pub StepsMakeHeadway : Type 0
+  StepsMakeHeadway = (s t : StepInSlices S) (units : ℕ) → StepIsPaused s units t → units ≤ 1025 * (used_by_step t - used_by_step s)
 
 -- A step begins on a loop: where no callback runs it is over, and else nothing of that has run, and nothing is copied.
 abbrev pub StepBegins : {S : Type 0} → Calls S → Core S → StepSlice S → Type 0

@@ -2,7 +2,7 @@
 
 ghost use Rattle.phases.specs.Kinds.{AreKinds};
 ghost use Rattle.phases.specs.Laws.{IsAfterOnce, IsAfterOwn, IsAfterLast, IsAskedOnce, IsHandedOnce, IsHandedOwn};
-ghost use Rattle.phases.specs.Slices.{SlicesMakeHeadway};
+ghost use Rattle.phases.specs.Slices.{StepsMakeHeadway};
 
 use crate::shared::Shared;
 
@@ -25,7 +25,7 @@ pub fn asked_once<B: Shared>()
 
 /// A slice that leaves a step in progress uses at least one in 1,025 of its units, however many bytes the callback copies.
 pub fn slices_make_headway<B: Shared>()
-    ensures { SlicesMakeHeadway B.calls }
+    ensures { StepsMakeHeadway B.calls }
 {}
 
 /// The kinds that an after-work callback is given are those of docs/UV.md.

@@ -8,7 +8,7 @@ ghost use Rattle.sentences.specs.declared.defect.Defect.TheVariants as defect;
 ghost use Rattle.sentences.specs.Defects.{EntryNames, HaveOneName, IsDefectOfSection, section_of_entry, space_of_extern};
 
 use crate::defect::{Defect, IndexSpace, SectionEntry};
-use crate::memory::{RefusedMemory, export_name};
+use crate::memory::{RefusedText, export_name};
 use crate::spaces::{count_in_module, dangling};
 use limits::{MAX_IMPORT_RESULTS, MAX_RESULTS};
 use places::{DATA, ELEMENTS, EXPORTS, FUNCTIONS, GLOBALS, IMPORTS, TYPES};
@@ -117,7 +117,7 @@ fn twice(
     first: usize,
     second: usize,
     name: &[u8],
-) -> Result<Defect, RefusedMemory>
+) -> Result<Defect, RefusedText>
     requires { HaveOneName contents.now first second name.now }
     ensures { IfOk result (IsDefectOfSection contents.now 7) }
 {
@@ -128,7 +128,7 @@ fn twice(
     })
 }
 
-fn of_export(alloc: Global, module: &Module, number: usize) -> Result<Option<Defect>, RefusedMemory>
+fn of_export(alloc: Global, module: &Module, number: usize) -> Result<Option<Defect>, RefusedText>
     ensures { IfOk result (λ found. IfSome found (IsDefectOfSection «module».now.contents 7)) }
 {
     let contents = module.contents();
@@ -214,7 +214,7 @@ fn of_entry(
     module: &Module,
     section: u8,
     number: usize,
-) -> Result<Option<Defect>, RefusedMemory>
+) -> Result<Option<Defect>, RefusedText>
     ensures { IfOk result (λ found. IfSome found (IsDefectOfSection «module».now.contents section)) }
 {
     let contents = module.contents();
@@ -251,7 +251,7 @@ pub fn section_defect(
     alloc: Global,
     module: &Module,
     section: u8,
-) -> Result<Option<Defect>, RefusedMemory>
+) -> Result<Option<Defect>, RefusedText>
     ensures { IfOk result (λ found. IfSome found (IsDefectOfSection «module».now.contents section)) }
 {
     for number in 0..count_of(module.contents(), section) {

@@ -9,7 +9,7 @@ use crate::defect::Defect;
 use crate::entries::section_defect;
 use crate::found;
 use crate::help::{NO_TABLES, OPTIMIZED};
-use crate::memory::{RefusedMemory, decoded, invalid_at};
+use crate::memory::{RefusedText, decoded, invalid_at};
 use crate::operations::operation_defect;
 use crate::reason::{Finding, Reason};
 use crate::types::name_of_type;
@@ -84,7 +84,7 @@ fn defect_of(
     fault: ValidFault,
     site: InvalidPart,
     is_known: bool,
-) -> Result<Option<Defect>, RefusedMemory>
+) -> Result<Option<Defect>, RefusedText>
     ensures { IfOk result (λ found. IfSome found (IsDefectOf «module».now.contents site)) }
 {
     if is_known || is_object(module.bytes()) {
@@ -106,7 +106,7 @@ pub fn invalid(
     alloc: Global,
     bytes: &[u8],
     fault: ValidFault,
-) -> Result<Option<Finding>, RefusedMemory>
+) -> Result<Option<Finding>, RefusedText>
     ensures { IfOk result (λ found. IfSome found (λ it. IsToldOf (Validate fault) bytes.now it.place it.defect)) }
 {
     let Some(module) = decoded(alloc, bytes)? else {

@@ -36,7 +36,7 @@ pub use file_kind::{FileKind, kind_of_file};
 pub use line::EndedLine;
 pub use listing::Listing;
 pub use meanings::meaning;
-pub use memory::{Page, RefusedMemory, text};
+pub use memory::{Page, RefusedText, text};
 pub use mismatch::Mismatch;
 pub use missing::{Counts, Missing};
 pub use ran::{Ran, What};

@@ -18,9 +18,9 @@ use std::str;
 use syntax::module::Module;
 use validate::{InvalidAt, Valid, ValidFault};
 
-/// Memory was refused. One is made in this module alone, where an allocation was, or where a module that is read again says so.
+/// Memory for a text was refused. One is made in this module alone, where an allocation was, or where a module that is read again says so.
 #[derive(Drop)]
-pub struct RefusedMemory {
+pub struct RefusedText {
     by: AllocError,
 }
 
@@ -28,7 +28,7 @@ pub struct RefusedMemory {
 #[derive(Drop)]
 pub struct Page {
     text: String,
-    refused: Option<RefusedMemory>,
+    refused: Option<RefusedText>,
 }
 
 impl Page {
@@ -45,7 +45,7 @@ impl Page {
         match self.text.push_str(words) {
             Ok(()) => true,
             Err(by) => {
-                self.refused = Some(RefusedMemory { by });
+                self.refused = Some(RefusedText { by });
                 false
             }
         }
@@ -58,7 +58,7 @@ impl Page {
     }
 
     /// The words, unless memory was refused for some.
-    pub fn finish(self) -> Result<String, RefusedMemory> {
+    pub fn finish(self) -> Result<String, RefusedText> {
         let Page { text, refused } = self;
         match refused {
             Some(refused) => Err(refused),
@@ -92,19 +92,19 @@ impl io::Write for Page {
 }
 
 /// What prints as words, in memory of its own.
-pub fn text<T: fmt::Display + Drop>(alloc: Global, told: T) -> Result<String, RefusedMemory> {
+pub fn text<T: fmt::Display + Drop>(alloc: Global, told: T) -> Result<String, RefusedText> {
     let mut page = Page::new(alloc);
     page.add(told);
     page.finish()
 }
 
 /// A name of a decoded module, which is UTF-8, so that only an allocation can fail.
-pub(crate) fn export_name(alloc: Global, name: &[u8]) -> Result<String, RefusedMemory>
+pub(crate) fn export_name(alloc: Global, name: &[u8]) -> Result<String, RefusedText>
     ensures { IfOk result (λ text. string_bytes text ≡ name.now) }
 {
     match Place::export(alloc, name) {
         Some(Place::Export { name }) => Ok(name),
-        _ => Err(RefusedMemory { by: AllocError }),
+        _ => Err(RefusedText { by: AllocError }),
     }
 }
 
@@ -114,20 +114,17 @@ pub(crate) fn import_place(
     number: usize,
     module: &[u8],
     name: &[u8],
-) -> Result<Place, RefusedMemory>
+) -> Result<Place, RefusedText>
     ensures { IfOk result (IsPlaceOfImport number «module».now name.now) }
 {
     match Place::import(alloc, number, module, name) {
         Some(place) => Ok(place),
-        None => Err(RefusedMemory { by: AllocError }),
+        None => Err(RefusedText { by: AllocError }),
     }
 }
 
 /// Where bytes that are read again are refused by their form, if they are.
-pub(crate) fn malformed_at(
-    alloc: Global,
-    bytes: &[u8],
-) -> Result<Option<MalformedAt>, RefusedMemory>
+pub(crate) fn malformed_at(alloc: Global, bytes: &[u8]) -> Result<Option<MalformedAt>, RefusedText>
     ensures refused { IfOk result (λ found. IfSome found (λ r. r.fault ≢ decoding.Memory → SpellsNothing bytes.now)) }
     ensures within { IfOk result (λ found. IfSome found (λ r. r.at ≤ length bytes.now)) }
 {
@@ -135,43 +132,43 @@ pub(crate) fn malformed_at(
         return Ok(None);
     };
     if found.fault == DecodeFault::Memory {
-        return Err(RefusedMemory { by: AllocError });
+        return Err(RefusedText { by: AllocError });
     }
     Ok(Some(found))
 }
 
 /// Where a module that is read again isn't valid, if it isn't.
-pub(crate) fn invalid_at(alloc: Global, module: &Module) -> Result<Option<InvalidAt>, RefusedMemory>
+pub(crate) fn invalid_at(alloc: Global, module: &Module) -> Result<Option<InvalidAt>, RefusedText>
     ensures { IfOk result (λ found. IfSome found (λ r. BreaksAt «module».now.contents r.fault r.site)) }
 {
     let Some(found) = validate::refused_at(alloc, module) else {
         return Ok(None);
     };
     if found.fault == ValidFault::Memory {
-        return Err(RefusedMemory { by: AllocError });
+        return Err(RefusedText { by: AllocError });
     }
     Ok(Some(found))
 }
 
 /// The module of bytes that are read again, if they spell one.
-pub(crate) fn decoded(alloc: Global, bytes: &[u8]) -> Result<Option<Module>, RefusedMemory>
+pub(crate) fn decoded(alloc: Global, bytes: &[u8]) -> Result<Option<Module>, RefusedText>
     ensures { IfOk result (λ read. IfSome read (λ m. Spells bytes.now m.contents)) }
 {
     match loader::decoded(alloc, bytes) {
         Ok(module) => Ok(Some(module)),
-        Err(Refusal::Memory) => Err(RefusedMemory { by: AllocError }),
+        Err(Refusal::Memory) => Err(RefusedText { by: AllocError }),
         Err(_) => Ok(None),
     }
 }
 
 /// The valid module of bytes that are read again, if they spell one.
-pub(crate) fn validated(alloc: Global, bytes: &[u8]) -> Result<Option<Valid>, RefusedMemory>
+pub(crate) fn validated(alloc: Global, bytes: &[u8]) -> Result<Option<Valid>, RefusedText>
     ensures spelled { IfOk result (λ read. IfSome read (λ v. Spells bytes.now v.contents)) }
     ensures valid { IfOk result (λ read. IfSome read (λ v. ValidModule v.contents)) }
 {
     match loader::validated(alloc, bytes) {
         Ok(valid) => Ok(Some(valid)),
-        Err(Refusal::Memory) => Err(RefusedMemory { by: AllocError }),
+        Err(Refusal::Memory) => Err(RefusedText { by: AllocError }),
         Err(_) => Ok(None),
     }
 }

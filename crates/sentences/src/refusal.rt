@@ -7,7 +7,7 @@ use crate::defect::Defect;
 use crate::help::LINKED;
 use crate::invalid::invalid;
 use crate::meanings::meaning;
-use crate::memory::RefusedMemory;
+use crate::memory::RefusedText;
 use crate::reason::{Finding, Reason};
 use crate::undecoded::undecoded;
 use crate::unlinked::unlinked;
@@ -38,7 +38,7 @@ impl fmt::Display for RefusalAccount {
 }
 
 /// What is found at the place of the rejection. The bytes are read again.
-fn found_at(refusal: Refusal, alloc: Global, bytes: &[u8]) -> Result<Option<Finding>, RefusedMemory>
+fn found_at(refusal: Refusal, alloc: Global, bytes: &[u8]) -> Result<Option<Finding>, RefusedText>
     ensures { IfOk result (λ found. IfSome found (λ it. IsToldOf refusal bytes.now it.place it.defect)) }
 {
     match refusal {
@@ -87,7 +87,7 @@ pub fn try_explain(
     refusal: Refusal,
     alloc: Global,
     bytes: &[u8],
-) -> Result<RefusalAccount, RefusedMemory>
+) -> Result<RefusalAccount, RefusedText>
     ensures { IfOk result (IsTrueOf refusal bytes.now) }
 {
     let finding = found_at(refusal, alloc, bytes)?;

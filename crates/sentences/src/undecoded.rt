@@ -5,7 +5,7 @@ ghost use Rattle.loader.specs.declared.refusal.Refusal.TheVariants.{Decode};
 ghost use Rattle.sentences.specs.RefusalPlaces.{IsToldOf};
 
 use crate::found;
-use crate::memory::{RefusedMemory, malformed_at};
+use crate::memory::{RefusedText, malformed_at};
 use crate::reason::{Finding, Reason};
 use decode::{DecodeFault, MalformedAt};
 use places::{Part, Place, part_with};
@@ -43,7 +43,7 @@ pub fn undecoded(
     alloc: Global,
     bytes: &[u8],
     fault: DecodeFault,
-) -> Result<Option<Finding>, RefusedMemory>
+) -> Result<Option<Finding>, RefusedText>
     ensures { IfOk result (λ found. IfSome found (λ it. IsToldOf (Decode fault) bytes.now it.place it.defect)) }
 {
     let Some(refused) = malformed_at(alloc, bytes)? else {

@@ -6,7 +6,7 @@ ghost use Rattle.sentences.specs.RefusalPlaces.{IsPlaceOfMisfit, IsToldOf};
 
 use crate::help::DEFINED;
 use crate::meanings::of_link;
-use crate::memory::{Page, RefusedMemory, export_name, import_place, text, validated};
+use crate::memory::{Page, RefusedText, export_name, import_place, text, validated};
 use crate::reason::{Finding, Reason};
 use crate::types::SpelledType;
 use imports::{Call, CallType, EntryPoint, LinkFault, UnlinkedPart, refused_at};
@@ -19,7 +19,7 @@ use syntax::types::Value;
 use validate::{type_at, type_of_function};
 
 /// The functions that can be imported.
-fn offered(alloc: Global) -> Result<String, RefusedMemory> {
+fn offered(alloc: Global) -> Result<String, RefusedText> {
     let mut page = Page::new(alloc);
     page.add("it has");
     let mut between = " ";
@@ -36,7 +36,7 @@ fn compared(
     alloc: Global,
     wanted: CallType,
     found: Option<&FuncType>,
-) -> Result<Option<String>, RefusedMemory> {
+) -> Result<Option<String>, RefusedText> {
     let Some(found) = found else {
         return Ok(None);
     };
@@ -51,7 +51,7 @@ fn of_import(
     contents: &Contents,
     import: &Import,
     fault: LinkFault,
-) -> Result<Option<String>, RefusedMemory> {
+) -> Result<Option<String>, RefusedText> {
     match fault {
         LinkFault::Name => Ok(Some(offered(alloc)?)),
         LinkFault::BadType => match Call::from_name(import.name.as_slice()) {
@@ -71,7 +71,7 @@ fn of_export(
     alloc: Global,
     contents: &Contents,
     export: &ModuleExport,
-) -> Result<Option<String>, RefusedMemory> {
+) -> Result<Option<String>, RefusedText> {
     let Some(entry) = EntryPoint::from_name(export.name.as_slice()) else {
         return Ok(None);
     };
@@ -93,7 +93,7 @@ fn end_behind(room: u64, offset: &Initializer, count: usize) -> Option<u64> {
 }
 
 /// The first element segment that ends beyond the table.
-fn of_elements(alloc: Global, contents: &Contents) -> Result<Option<String>, RefusedMemory> {
+fn of_elements(alloc: Global, contents: &Contents) -> Result<Option<String>, RefusedText> {
     let room = contents.table.map_or(0, |limits| u64::from(limits.min));
     for (number, element) in contents.elements.as_slice().iter().enumerate() {
         if let Some(end) = end_behind(room, &element.offset, element.functions.len()) {
@@ -107,7 +107,7 @@ fn of_elements(alloc: Global, contents: &Contents) -> Result<Option<String>, Ref
 }
 
 /// The first data segment that ends beyond the memory.
-fn of_data(alloc: Global, contents: &Contents) -> Result<Option<String>, RefusedMemory> {
+fn of_data(alloc: Global, contents: &Contents) -> Result<Option<String>, RefusedText> {
     let pages = contents.memory.map_or(0, |limits| u64::from(limits.min));
     let room = pages.saturating_mul(PAGE_SIZE as u64);
     for (number, segment) in contents.data.as_slice().iter().enumerate() {
@@ -128,7 +128,7 @@ fn part_of(
     contents: &Contents,
     site: UnlinkedPart,
     fault: LinkFault,
-) -> Result<(Option<Place>, Option<String>), RefusedMemory>
+) -> Result<(Option<Place>, Option<String>), RefusedText>
     ensures { IfOk result (λ found. IfSome found.0 (IsPlaceOfMisfit bytes.now contents.now site)) }
 {
     match site {
@@ -164,7 +164,7 @@ pub fn unlinked(
     alloc: Global,
     bytes: &[u8],
     fault: LinkFault,
-) -> Result<Option<Finding>, RefusedMemory>
+) -> Result<Option<Finding>, RefusedText>
     ensures { IfOk result (λ found. IfSome found (λ it. IsToldOf (Link fault) bytes.now it.place it.defect)) }
 {
     let Some(valid) = validated(alloc, bytes)? else {

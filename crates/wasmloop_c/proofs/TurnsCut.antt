@@ -14,7 +14,7 @@ use Rattle.wasmloop_c.specs.Numbers.{did_of}
 use Rattle.std.specs.Prelude.{Result, Ok, Err}
 use Rattle.order.specs.declared.reserving.RefusedMemory.{RefusedMemory}
 use Rattle.wasmloop_c.specs.Statuses.{OnlyRefused, status_in}
-use Rattle.wasmloop_c.specs.StepSlices.{LeftByStep, RunsStep, answer_of, step_held}
+use Rattle.wasmloop_c.specs.StepSlices.{LeftByStep, RunsStep, answer_without_slice, step_held}
 use Rattle.wasmloop_c.specs.declared.step_slices.NoSlice.{NoSlice}
 use Rattle.wasmloop_c.specs.declared.step_slices.NoSlice.TheVariants as none
 use Rattle.wasmloop_c.specs.TurnSlices.{LoopIsAt, bytes_before, bytes_in, used_before, SliceEnds, SliceGoesOn, StepIsUnderway, TakesSlices, TurnsStage, WaitsFor, counted_for, fuel_in, last_did, IsRefusal}
@@ -133,7 +133,7 @@ no_end (slice.Over d told) left why (is, same) = cc
 no_end (slice.Paused t) left why (is, same) = cc
 
 pub refused : (from : LoopStage) (units : ℕ) (left : LoopStage) (why : NoSlice) → RunsStep from units left (end.Refused why)
-    → (left ≡ from) × IsRefusal from (status_in (answer_of why))
+    → (left ≡ from) × IsRefusal from (status_in (answer_without_slice why))
 refused (stage.Resting held) units left why (inl (first, it, begins, goes, lefts)) = absurd (no_end it left why lefts)
 refused (stage.Resting held) units left (none.Memory memory) (inr (it, same, is)) = (same, refl)
 refused (stage.Resting held) units left none.Gone (inr (it, same, is)) = absurd cc

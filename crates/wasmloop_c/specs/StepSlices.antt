@@ -31,9 +31,9 @@ IsOfLoop number (Over d did) = d.setting.loop_no ≡ number
 IsOfLoop number (Paused s) = ∥ IsStepOfLoop number s ∥₁
 
 -- what C is answered where there is no slice
-abbrev pub answer_of : NoSlice → Result ℕ RefusedMemory
-answer_of (none.Memory refused) = Err refused
-answer_of none.Gone = Ok KIND
+abbrev pub answer_without_slice : NoSlice → Result ℕ RefusedMemory
+answer_without_slice (none.Memory refused) = Err refused
+answer_without_slice none.Gone = Ok KIND
 
 -- what is left of a loop after a slice of its step, and what that has come to
 abbrev pub LeftByStep : StepSlice Desk → LoopStage → SliceEnd → Type 0
@@ -58,7 +58,7 @@ RunsStep stage.Gone units left told = (left ≡ stage.Gone) × (told ≡ end.Ref
 abbrev pub TellsSlice : SliceEnd → (was over : ℕ) → (before told : Did) → (status : ℕ) → Type 0
 TellsSlice (end.Over did) was over before told status = (status ≡ OK) × (over ≡ 1) × (told ≡ did)
 TellsSlice end.Paused was over before told status = (status ≡ OK) × (over ≡ 0) × (told ≡ before)
-TellsSlice (end.Refused why) was over before told status = (status ≡ status_in (answer_of why)) × (over ≡ was) × (told ≡ before)
+TellsSlice (end.Refused why) was over before told status = (status ≡ status_in (answer_without_slice why)) × (over ≡ was) × (told ≡ before)
 
 -- a slice of a step of the loop that a thing is, and of the one that a handle has
 abbrev pub StepsFor : (old new : Thing) → (units was over : ℕ) → (before told : Did) → (status : ℕ) → Type 0

@@ -6,7 +6,7 @@ use Rattle.desk.specs.Desk.{Desk, desk_calls}
 use Rattle.phases.specs.State.{Core}
 use Rattle.phases.specs.Underway.{StepHasCome, used_by_step}
 use Rattle.wasmloop_c.specs.Statuses.{OnlyRefused, status_in}
-use Rattle.wasmloop_c.specs.StepSlices.{answer_of}
+use Rattle.wasmloop_c.specs.StepSlices.{answer_without_slice}
 use Rattle.wasmloop_c.specs.Calls.{OnCounted, OnHandle, StepsNumbered, core_in, one_if}
 use Rattle.wasmloop_c.specs.Turning.{counted_after, ends_turn, ran_in, wait_after, NoneEnds, TakesSteps, TurnSteps}
 use Rattle.wasmloop_c.specs.declared.did.Did.{Did}
@@ -115,7 +115,7 @@ TakesSlice from most old did to flow.Over = StepIsTaken from did to × (ends_tur
 TakesSlice from most old did to flow.Paused =
     (StepIsTaken from did to × (ends_turn most from.ran did ≡ false))
     ⊎ (StepIsUnderway from to × (did ≡ old))
-TakesSlice from most old did to (flow.Refused why) = (to ≡ from) × (did ≡ old) × IsRefusal from.stage (status_in (answer_of why))
+TakesSlice from most old did to (flow.Refused why) = (to ≡ from) × (did ≡ old) × IsRefusal from.stage (status_in (answer_without_slice why))
 
 -- what a slice leaves of a turn from a loop's stage, and of what the step before it did
 abbrev pub TakesSlices : LoopStage → (most units : ℕ) → (old did : Did) → TurnLeft → Type 0

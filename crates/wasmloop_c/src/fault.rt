@@ -5,7 +5,7 @@ ghost use Rattle.wasmloop_c.specs.Numbers.{stage_number, code_number};
 
 use loader::Refusal;
 use places::{Part, Place};
-use sentences::{RefusedMemory, text, try_explain};
+use sentences::{RefusedText, text, try_explain};
 use std::alloc::Global;
 
 /// Why bytes are no guest, and where.
@@ -130,7 +130,7 @@ impl Fault {
     }
 
     /// Why these bytes are refused, and where, as far as that is known.
-    pub fn new(alloc: Global, refusal: Refusal, bytes: &[u8]) -> Result<Fault, RefusedMemory>
+    pub fn new(alloc: Global, refusal: Refusal, bytes: &[u8]) -> Result<Fault, RefusedText>
         ensures { IfOk result (λ fault. (fault.stage ≡ stage_number refusal) × (fault.code ≡ code_number refusal)) }
     {
         let place = try_explain(refusal, alloc, bytes)?.place;
@@ -142,7 +142,7 @@ impl Fault {
         alloc: Global,
         refusal: Refusal,
         bytes: &[u8],
-    ) -> Result<(Fault, String), RefusedMemory>
+    ) -> Result<(Fault, String), RefusedText>
         ensures { IfOk result (λ told. (told.0.stage ≡ stage_number refusal) × (told.0.code ≡ code_number refusal)) }
     {
         let account = try_explain(refusal, alloc, bytes)?;

@@ -12,7 +12,7 @@ use crate::place::words;
 use crate::status::{KIND, NONE, status_of};
 use crate::stops::{Stopped, stopped};
 use crate::thing::Thing;
-use sentences::RefusedMemory;
+use sentences::RefusedText;
 use std::alloc::Global;
 
 fn tell(
@@ -20,7 +20,7 @@ fn tell(
     found: Option<Stopped<'_>>,
     into: &mut [u8],
     count: &mut u64,
-) -> Result<u32, RefusedMemory>
+) -> Result<u32, RefusedText>
     ensures tells { TellsOwnPlaceOf (option_map (λ s. (option_map told_of s.0, s.1.now)) found.entry) into.old into.new count.old count.new (status_in result) }
     ensures memory { OnlyRefused result }
 {
@@ -39,7 +39,7 @@ fn tell_thing(
     thing: &Thing,
     into: &mut [u8],
     count: &mut u64,
-) -> Result<u32, RefusedMemory>
+) -> Result<u32, RefusedText>
     ensures tells { TellsOwnPlace thing.now into.old into.new count.old count.new (status_in result) }
     ensures memory { OnlyRefused result }
 {

@@ -12,10 +12,10 @@ use crate::status::{KIND, NONE, REFUSED, status_of};
 use crate::stops::{StopPlace, Stopped, stopped};
 use crate::thing::Thing;
 use order::Trail;
-use sentences::{Page, RefusedMemory, tell_place};
+use sentences::{Page, RefusedText, tell_place};
 use std::alloc::Global;
 
-fn written(alloc: Global, bytes: &[u8], trail: &Trail) -> Result<String, RefusedMemory> {
+fn written(alloc: Global, bytes: &[u8], trail: &Trail) -> Result<String, RefusedText> {
     let mut page = Page::new(alloc);
     // the page itself keeps that memory was refused
     let _ = tell_place(bytes, trail, "in ", &mut page);
@@ -23,7 +23,7 @@ fn written(alloc: Global, bytes: &[u8], trail: &Trail) -> Result<String, Refused
 }
 
 /// The words for a place in a module of these bytes, as `tell_stopped` has them.
-pub fn words(alloc: Global, bytes: &[u8], stop: &StopPlace<'_>) -> Result<String, RefusedMemory> {
+pub fn words(alloc: Global, bytes: &[u8], stop: &StopPlace<'_>) -> Result<String, RefusedText> {
     match stop {
         StopPlace::Callback(stop) => written(alloc, bytes, &Trail::of(stop)),
         StopPlace::Job(trail) => written(alloc, bytes, trail),
@@ -37,7 +37,7 @@ fn tell(
     bytes: &[u8],
     into: &mut [u8],
     count: &mut u64,
-) -> Result<u32, RefusedMemory>
+) -> Result<u32, RefusedText>
     ensures tells { TellsPlaceOf (option_map (λ s. (option_map told_of s.0, s.1.now)) found.entry) bytes.now into.old into.new count.old count.new (status_in result) }
     ensures memory { OnlyRefused result }
 {
@@ -60,7 +60,7 @@ fn tell_thing(
     bytes: &[u8],
     into: &mut [u8],
     count: &mut u64,
-) -> Result<u32, RefusedMemory>
+) -> Result<u32, RefusedText>
     ensures tells { TellsPlace thing.now bytes.now into.old into.new count.old count.new (status_in result) }
     ensures memory { OnlyRefused result }
 {

@@ -2,7 +2,7 @@
 
 ghost use Rattle.std.specs.Prelude.{◌≡◌, ◌≤◌, ◌<◌};
 ghost use Rattle.wasmloop_c.specs.Statuses.{OnlyRefused, status_in};
-ghost use Rattle.wasmloop_c.specs.StepSlices.{IsOfLoop, LeftByStep, RunsStep, StepsFor, StepsHeld, TellsSlice, answer_of};
+ghost use Rattle.wasmloop_c.specs.StepSlices.{IsOfLoop, LeftByStep, RunsStep, StepsFor, StepsHeld, TellsSlice, answer_without_slice};
 ghost use Rattle.phases.specs.declared.slices.StepSlice.TheVariants as slice;
 ghost use Rattle.wasmloop_c.specs.declared.thing.LoopStage.TheVariants as stage;
 
@@ -30,7 +30,7 @@ pub enum NoSlice {
 impl NoSlice {
     /// What C is answered.
     pub fn answer(self) -> Result<u32, RefusedMemory>
-        ensures answer { result ≡ answer_of self }
+        ensures answer { result ≡ answer_without_slice self }
         ensures memory { OnlyRefused result }
     {
         match self {

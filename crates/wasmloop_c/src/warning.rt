@@ -9,7 +9,7 @@ use crate::handle::{Handle, on};
 use crate::status::{KIND, NONE, status_of};
 use crate::thing::Thing;
 use imports::Linked;
-use sentences::{RefusedMemory, text, warnings};
+use sentences::{RefusedText, text, warnings};
 use std::alloc::Global;
 
 fn tell_warning(
@@ -18,7 +18,7 @@ fn tell_warning(
     number: u32,
     into: &mut [u8],
     count: &mut u64,
-) -> Result<u32, RefusedMemory>
+) -> Result<u32, RefusedText>
     ensures tells { TellsWarningOf into.old into.new count.old count.new (status_in result) }
     ensures memory { OnlyRefused result }
 {
@@ -36,7 +36,7 @@ fn warning(
     number: u32,
     into: &mut [u8],
     count: &mut u64,
-) -> Result<u32, RefusedMemory>
+) -> Result<u32, RefusedText>
     ensures tells { TellsWarning thing.now into.old into.new count.old count.new (status_in result) }
     ensures memory { OnlyRefused result }
 {

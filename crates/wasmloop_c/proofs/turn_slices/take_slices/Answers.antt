@@ -1,6 +1,6 @@
 use Rattle.wasmloop_c.proofs.Names.{ap, arith, inl, inr, LoopStage, refl, subst, Turning, ◌-◌, ◌^◌, ◌∙◌, ◌≡◌}
 use Rattle.wasmloop_c.specs.Statuses.{status_in}
-use Rattle.wasmloop_c.specs.StepSlices.{answer_of}
+use Rattle.wasmloop_c.specs.StepSlices.{answer_without_slice}
 use Rattle.wasmloop_c.specs.TurnSlices.{TakesSlice, IsRefusal}
 use Rattle.wasmloop_c.specs.declared.turn_slices.TurnFlow.{TurnFlow}
 use Rattle.wasmloop_c.proofs.TurnsCut.{none_yet, one_more, over_now, pauses, stays, stays_so}
@@ -39,7 +39,7 @@ returns-in-Refused c =
     elim c.if-taken-eq0.branch [
       | then-taken-eq0 w ↦ let first = c.loop-taken.invariant.first w.if-taken-eq0.true in
           rw (c.left_of-in-Refused.ensures, w.left_of-is) (inr (inr (
-            rw w.answer.ensures.answer (subst (λ (s : LoopStage). IsRefusal s (status_in (answer_of c.in-Refused.why))) first.0 it.2),
+            rw w.answer.ensures.answer (subst (λ (s : LoopStage). IsRefusal s (status_in (answer_without_slice c.in-Refused.why))) first.0 it.2),
             ap (λ (t : Turning). t.stage) it.0 ∙ first.0,
             it.1 ∙ first.1,
             w.answer.ensures.memory,

@@ -17,7 +17,7 @@ use syntax::contents::{Contents, ExternKind, FuncType};
 use syntax::initializer::Initializer;
 use syntax::module::Module;
 use syntax::types::{ValType, Value};
-use validate::{ValidFault, type_at, type_of_function};
+use validate::{type_at, type_of_function};
 
 /// The id of the section of the start function (WebAssembly Core 1.0, 5.5.2).
 const START: u8 = 8;

@@ -1,7 +1,7 @@
 -- The steps of a turn in slices, one after the other.
 use Rattle.wasmloop_c.proofs.Names.{ap, arith, Core, counted_on, Desk, desk_calls, Did, ends_turn, false, HeldLoop, inl, inr, length, List, LoopStage, NoneEnds}
 use Rattle.wasmloop_c.proofs.Names.{OK, one_if, RAN, ran_in, refl, SliceEnd, Some, StepBegins, StepGoesOn, StepIsTaken, StepSlice, StepsNumbered, subst, sym}
-use Rattle.wasmloop_c.proofs.Names.{None, TakesSteps, true, Turned, Turning, used_in, ℕ, [], ◌*◌, ◌+◌, ◌<◌, ◌==◌, ◌∙◌, ◌∷◌, ◌≡◌, ◌≤◌, ◌⊎◌}
+use Rattle.wasmloop_c.proofs.Names.{TakesSteps, true, Turned, Turning, used_in, ℕ, [], ◌*◌, ◌+◌, ◌<◌, ◌==◌, ◌∙◌, ◌∷◌, ◌≡◌, ◌≤◌, ◌⊎◌}
 use Rattle.limits.specs.declared.TheConstants.{MAX_BYTES}
 use Rattle.interp.specs.declared.paused.TheConstants.{UNIT_BYTES}
 use Rattle.events.specs.declared.did.StepDid.{StepDid}

@@ -7,9 +7,9 @@ ghost use Rattle.syntax.specs.declared.contents.FuncType.{FuncType};
 ghost use Rattle.validate.specs.Typing.{HasFunctionType};
 ghost use Rattle.events.specs.declared.ended.Ended.{Ended as HowEnded};
 ghost use Rattle.reduction.specs.Invoking.{TakesArguments};
-ghost use Rattle.resident.specs.Calls.{CallsInstance, ExportsFirst, ExportsNoFunction, IsNew};
+ghost use Rattle.resident.specs.Calls.{CallsInstance, IsNew};
 ghost use Rattle.wasmloop_c.specs.Calls.{AnswersIn, IsDepth, module_of};
-ghost use Rattle.wasmloop_c.specs.Instances.{OnResident, OnStage, OnHeldResident, OpensOver, OpensNone, TakesNumbers, IsNoCall, MakesCall, CallsBy, WritesMemory, resident_of};
+ghost use Rattle.wasmloop_c.specs.Instances.{OnResident, OnStage, OnHeldResident, OpensOver, OpensNone, MakesCall, CallsBy, WritesMemory, resident_of};
 ghost use Rattle.wasmloop_c.specs.Values.{values_of, call_numbers};
 
 use crate::checked::CheckedLimits;

@@ -10,7 +10,6 @@ ghost use Rattle.wasmloop_c.specs.Calls.{OnHandle};
 ghost use Rattle.wasmloop_c.specs.Slices.{HadNoMemory, LeftBy, RunsFor, RunsStageFor};
 
 use crate::handle::{Handle, on};
-use crate::job::RunnableOrder;
 use crate::status::{KIND, OK, RANGE};
 use crate::thing::{JobStage, Thing};
 use order::{OrderGoing, Reply, Told};

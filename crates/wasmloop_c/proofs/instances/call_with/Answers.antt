@@ -1,4 +1,4 @@
-use Rattle.wasmloop_c.proofs.Names.{ap, arith, Contents, FuncType, length, List, refl, sym, take, Value, ℕ, [], ◌∙◌, ◌∷◌, ◌≡◌, ◌≤◌}
+use Rattle.wasmloop_c.proofs.Names.{ap, arith, Contents, FuncType, length, List, sym, take, Value, ℕ, [], ◌∙◌, ◌∷◌, ◌≡◌, ◌≤◌}
 use Rattle.std.proofs.lemmas.List.{take_all, length-take-le}
 use Rattle.syntax.specs.declared.types.Value.TheVariants.{I32}
 use Rattle.validate.specs.Typing.{HasFunctionType}

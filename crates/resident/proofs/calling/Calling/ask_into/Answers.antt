@@ -2,7 +2,6 @@ use Rattle.resident.proofs.Words.{ap, arc_value, CallUnderway, Ended, List, refl
 use Rattle.std.specs.Prelude.{take}
 use Rattle.events.specs.declared.ended.Ending.TheVariants.{Return}
 use Rattle.reduction.specs.Run.{as_operands}
-use Rattle.interp.specs.Lent.{result_count}
 use Rattle.resident.specs.declared.kept.InstanceRoom.{InstanceRoom}
 use Rattle.resident.proofs.SlicesAreOneCall.{import_count, import_over}
 use Rattle.resident.proofs.Through.{some_of}

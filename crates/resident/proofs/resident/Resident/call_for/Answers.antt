@@ -1,7 +1,5 @@
-use Rattle.resident.proofs.Words.{subst, Value, List, ℕ, ◌≡◌, ◌≤◌}
-use Rattle.std.proofs.Common.{length}
+use Rattle.resident.proofs.Words.{subst, ℕ}
 use Rattle.syntax.specs.Loaded.{Loaded}
-use Rattle.interp.specs.Lent.{result_count}
 use Rattle.resident.specs.Bare.{whole_going}
 use Rattle.resident.specs.Slices.{CallGoesOn}
 use Rattle.resident.proofs.resident.Resident.call_for.Goals as goal

@@ -1,6 +1,5 @@
-use Rattle.resident.proofs.Words.{ap, arc_value, arith, KeptInstance, refl, subst, sym, ◌∙◌}
+use Rattle.resident.proofs.Words.{ap, arc_value, arith, KeptInstance, refl, ◌∙◌}
 use Rattle.std.proofs.Common.{length-take}
-use Rattle.resident.specs.Inner.Going.{IsResting}
 use Rattle.resident.specs.declared.kept.InstanceRoom.{InstanceRoom}
 use Rattle.resident.proofs.resident.Resident.call_over.Goals as goal
 

@@ -1013,7 +1013,7 @@ impl Job {
         Err(Error::Stopped { ending, trap, used: about.used })
     }
 
-    /// How many bytes the job has: its input and its reply. It is not paused.
+    /// How many bytes the job has: its input and its reply; while it is paused 65,536 for that, and its memory, its table and the room of its calls.
     pub fn held(&mut self) -> Result<u64, Error> {
         held(&mut self.0, job_error)
     }

@@ -262,8 +262,8 @@ int wasmloop_call(wasmloop_handle *instance, const char *name, const uint64_t *a
  * no such export. */
 int wasmloop_call_at(wasmloop_handle *instance, uint64_t number, const uint64_t *args, size_t count, const wasmloop_call_limits *limits, wasmloop_ended *ended);
 
-/* Begins a call by name, to be run in slices. It runs nothing yet, and allocates only for more than 8 arguments. NONE, ARGUMENTS, RANGE: as for wasmloop_call.
- * Until the call is over you may drop the instance and inspect it: wasmloop_size, wasmloop_read, wasmloop_global, and wasmloop_stop,
+/* Begins a call by name, to be run in slices. It runs nothing yet, and allocates only for more than 8 arguments. NONE, ARGUMENTS, RANGE: as for
+ * wasmloop_call. Until the call is over you may drop the instance and inspect it: wasmloop_size, wasmloop_read, wasmloop_global, and wasmloop_stop,
  * wasmloop_stop_places and wasmloop_stop_told, which report where it stands. Every other call on it but wasmloop_call_run_for
  * and wasmloop_call_end returns KIND. */
 int wasmloop_call_begin(wasmloop_handle *instance, const char *name, const uint64_t *args, size_t count, const wasmloop_call_limits *limits);

@@ -27,6 +27,12 @@ class Times(NamedTuple):
     stolen: float
     all: float
 
+    def since(self, then: Times) -> Times:
+        return Times(self.idle - then.idle, self.stolen - then.stolen, self.all - then.all)
+
+    def stolen_part(self) -> float:
+        return self.stolen / max(self.all, 1.0)
+
 
 def times() -> Times:
     with open("/proc/stat") as file:

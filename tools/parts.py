@@ -51,6 +51,7 @@ SHIPPED = {
     "pages": ["tests/pages.sh", PROGRAM],
     "outputs": ["tests/outputs.sh", PROGRAM],
     "dispatch": ["trials/dispatch/run.py", PROGRAM],
+    "jumps": ["trials/dispatch/jumps.py", PROGRAM, "dist/libwasmloop.a"],
     "capi": ["capi/test/run.sh", PROGRAM, "{room}/capi"],
     "desk": ["tests/desk.sh", PROGRAM, "{room}/desk"],
     "ask": ["tests/ask.sh", "{room}/ask"],

@@ -1,0 +1,136 @@
+#!/usr/bin/env python3
+"""Whether the engine's loops still have the jumps of their own that they had, in the program and in the library: how often each loop jumps to an
+operation, and by how many edges the loop is led to where such a jump is shared. An arm of the loop has a jump of its own as long as few edges lead to
+its way (crates/engine/src/ways.rt); with one more the compiler lets all share one. A function of the loop that several loops call may become a call at
+each operation, which takes ten times as long, and in no loop that has a single caller is it seen. No clause notices either.
+
+    jumps.py FILE..          FILE is a program or libwasmloop.a: status 1 where a loop is not as its line of jumps.txt says
+    jumps.py FILE.. --write  writes jumps.txt, which belongs to the bytes of these files: a change of the engine or of the compiler changes it
+    jumps.py --self-test     counts a loop whose numbers are known
+
+It reads what `objdump -d` tells of each FILE. A loop is a function that jumps to at least 20 addresses that were computed. An edge is a direct jump
+into the straight stretch that ends in such a jump, or the way from what stands above the stretch; a jump that has one edge is an arm's own.
+"""
+from __future__ import annotations
+
+import collections
+import re
+import shutil
+import subprocess
+import sys
+from pathlib import Path
+from typing import Collection, Dict, Iterator, List, NamedTuple
+
+LIST = Path(__file__).with_name("jumps.txt")
+FEWEST, LONGEST = 20, 12
+ENDS = ("jmp", "ret", "ud2", "hlt")
+
+
+class Line(NamedTuple):
+    at: int
+    does: str
+
+    def goes_on(self) -> bool:
+        return not self.does.startswith(ENDS)
+
+    def to(self) -> int | None:
+        """Where it jumps, if it says so."""
+        found = re.match(r"j\w+ +([0-9a-f]+)\b", self.does)
+        return int(found[1], 16) if found else None
+
+
+class Loop(NamedTuple):
+    """How many computed jumps a function has, how many of them are shared, and by how many edges the most."""
+    jumps: int
+    shared: int
+    edges: int
+
+    def __str__(self) -> str:
+        return f"{self.jumps} jumps, {self.shared} shared, {self.edges} edges at most"
+
+
+def functions(told: str) -> Iterator[tuple[str, List[Line]]]:
+    """The functions of a program, without what tells instances of one apart."""
+    for part in re.split(r"(?m)^(?=[0-9a-f]+ <.*>:$)", told):
+        named = re.match(r"[0-9a-f]+ <(.*)>:\n", part)
+        if named:
+            yield re.sub(r"^\.text\.|::<#\w+>", "", named[1]), [Line(int(at, 16), does) for at, does in re.findall(r"(?m)^ *([0-9a-f]+):\s+(.*)$", part)]
+
+
+def stretch(lines: List[Line], end: int) -> int:
+    """Where the straight stretch begins that ends there."""
+    begin = end
+    while begin and end - begin < LONGEST and lines[begin - 1].goes_on():
+        begin -= 1
+    return begin
+
+
+def loop(lines: List[Line]) -> Loop:
+    into = collections.Counter(to for to in (line.to() for line in lines) if to is not None)
+    edges = []
+    for end, line in enumerate(lines):
+        if re.match(r"jmp +\*", line.does):
+            begin = stretch(lines, end)
+            above = begin > 0 and lines[begin - 1].goes_on()
+            edges.append(above + sum(into[lines[it].at] for it in range(begin, end + 1)))
+    return Loop(len(edges), sum(it > 1 for it in edges), max(edges, default=0))
+
+
+def counted(told: str) -> Dict[str, Loop]:
+    """The loops of a program; instances of one function are told apart by a number, the one with the most jumps first."""
+    found = sorted(((name, loop(lines)) for name, lines in functions(told)), key=lambda it: (it[0], [-number for number in it[1]]))
+    seen: collections.Counter[str] = collections.Counter()
+    loops = {}
+    for name, its in found:
+        if its.jumps >= FEWEST:
+            seen[name] += 1
+            loops[f"{name} {seen[name]}"] = its
+    return loops
+
+
+def expected(files: Collection[str]) -> Dict[str, Loop]:
+    """The lines of these files."""
+    lines = (line.split(": ", 1) for line in LIST.read_text().splitlines() if line.split()[0] in files)
+    return {name: Loop(*map(int, re.findall(r"\d+", rest))) for name, rest in lines}
+
+
+def loops_of(file: str) -> Dict[str, Loop]:
+    ran = subprocess.run(["objdump", "-d", "--no-show-raw-insn", file], capture_output=True, text=True, check=True)
+    return {f"{Path(file).name} {name}": its for name, its in counted(ran.stdout).items()}
+
+
+def self_test() -> int:
+    arms = "".join(f"  {16 * n:x}:\tmov    (%rax),%ecx\n  {16 * n + 4:x}:\tjmp    *%rcx\n" for n in range(1, FEWEST))
+    told = ("0000 <f::<#12>>:\n" + arms + "  200:\tjne    300 <f+0x300>\n  204:\tmov    %rax,%rbx\n  208:\tret\n"
+            "  300:\tmov    (%rax),%ecx\n  304:\tcmp    %rcx,%rdx\n  308:\tjb     210 <f+0x210>\n  30c:\tjmp    *%rcx\n"
+            "  310:\tjmp    304 <f+0x304>\n\n0400 <g>:\n  400:\tjmp    *%rcx\n")
+    # (the last of `f` is led to by the jump at 200 and that at 310)
+    right = counted(told) == {"f 1": Loop(FEWEST, 1, 2)}
+    print(f"jumps.py: {'as it should be' if right else f'WRONG: {counted(told)}'}")
+    return int(not right)
+
+
+def main() -> int:
+    if sys.argv[1:] == ["--self-test"]:
+        return self_test()
+    files = [word for word in sys.argv[1:] if word != "--write"]
+    if not files or any(word.startswith("-") for word in files):
+        sys.exit("usage: jumps.py FILE.. [--write] | --self-test")
+    if not shutil.which("objdump"):
+        print("left out: there is no objdump")
+        return 0
+    found = {name: its for file in files for name, its in loops_of(file).items()}
+    if "--write" in sys.argv[1:]:
+        LIST.write_text("".join(f"{name}: {its}\n" for name, its in found.items()))
+        return 0
+    known = expected([Path(file).name for file in files])
+    for name, its in found.items():
+        print(f"{name}: {its}" + ("" if known.get(name) == its else f", expected {known.get(name, 'nothing')}: is this meant?"))
+    lost = [f"there is no {name}" for name in known if name not in found]
+    wrong = lost + [name for name, its in found.items() if known.get(name) != its]
+    print("\n".join(lost + [f"{len(found)} loops, {len(wrong)} not as expected" + (": FAILED, or renew by --write" if wrong else "")]))
+    return int(bool(wrong))
+
+
+if __name__ == "__main__":
+    sys.exit(main())

@@ -14,5 +14,7 @@ for tool in audit calls citations costs picture header limits operations plain r
     fi
 done
 for tool in tools/bodies.py tools/wrong.py capi/test/bodies.py; do python3 "$tool" --check || fail "$tool --check"; done
-[ "${1:-}" != --self-test ] || python3 tools/wrong.py --self-test || fail "tools/wrong.py --self-test"
+for tool in tools/wrong.py trials/dispatch/jumps.py; do
+    [ "${1:-}" != --self-test ] || python3 "$tool" --self-test || fail "$tool --self-test"
+done
 exit $wrong

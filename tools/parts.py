@@ -18,7 +18,7 @@ sys.dont_write_bytecode = True
 sys.path.insert(0, TOP)
 import build  # noqa: E402
 
-PROGRAM, BUILT = "dist/wasmloop", "crates/wasmloop/out/wasmloop"
+PROGRAM, ARCHIVE, BUILT = "dist/wasmloop", "dist/libwasmloop.a", "crates/wasmloop/out/wasmloop"
 # (`{room}` is the run's own folder, `{proved}` the one with the libraries that `rt ci` has proved so far)
 FIRST = {
     "pages beside the tree": ["tools/compare.sh", "--self-test"],
@@ -51,7 +51,7 @@ SHIPPED = {
     "pages": ["tests/pages.sh", PROGRAM],
     "outputs": ["tests/outputs.sh", PROGRAM],
     "dispatch": ["trials/dispatch/run.py", PROGRAM],
-    "jumps": ["trials/dispatch/jumps.py", PROGRAM, "dist/libwasmloop.a"],
+    "jumps": ["trials/dispatch/jumps.py", PROGRAM, ARCHIVE],
     "capi": ["capi/test/run.sh", PROGRAM, "{room}/capi"],
     "desk": ["tests/desk.sh", PROGRAM, "{room}/desk"],
     "ask": ["tests/ask.sh", "{room}/ask"],
@@ -59,7 +59,7 @@ SHIPPED = {
     "packs again": ["dist/pack.sh", "{room}/again"],
     "packs alike": ["cmp", "{room}/packs/SHA256SUMS", "{room}/again/SHA256SUMS"],
     "packs installed": ["dist/pack_test.sh", "{room}/packs"],
-    "plugins": ["examples/plugins/run.sh", "dist/libwasmloop.a"],
+    "plugins": ["examples/plugins/run.sh", ARCHIVE],
     "hosts": ["hosts/test.sh"],
     "guest kit": ["examples/kit/test/run.sh", PROGRAM],
     "official suite": ["trials/spec/run.sh", PROGRAM, "{room}/spec"],

@@ -7,7 +7,7 @@ set -u
 cd "$(dirname "$0")/.." || exit 1
 wrong=0
 fail() { echo "FAILED: $1"; wrong=1; }
-for tool in audit calls citations costs picture header limits operations plain refused rules shape uv; do
+for tool in audit calls citations costs picture header limits operations plain refused rules sequences shape uv; do
     python3 "tools/$tool.py" || fail "tools/$tool.py"
     if [ "${1:-}" = --self-test ] && grep -q -e '"self-test"' "tools/$tool.py"; then
         planted=$(python3 "tools/$tool.py" --self-test) || { echo "$planted"; fail "tools/$tool.py --self-test"; }

@@ -13,13 +13,16 @@ import sys
 from typing import Iterator
 
 from rows import ByOpcode, Listed, Place, Row, Types, keep, write
+from sequences import table as noted_table
 from sources import Sources, asked, finish, plant, unwritten
 
 TABLE = "tools/operations.txt"
 SORTS = {"Unary": "IntUnary", "Binary": "IntBinary", "Compare": "IntCompare", "Convert": "Conversion"}
-FIELDS = {"blocktype": "(BlockForm, u16, u32)", "label": "(u16, u32)", "labels": "(u16, u32)", "memarg": "(u8, u32)", "": "", "zero": ""}
+FIELDS = {"blocktype": "(BlockForm, u16, u32)", "label": "(u16, u32)", "labels": "(u16, u32)", "memarg": "(u8, u32)"}
 OPERATORS, NUMERIC = "Unary|Binary|Compare", "Unary|Binary|Compare|Eqz|Convert"
 INDEX, BRACKET = "label|function|local|global", "blocktype|else|end"
+# (what tools/sequences.py writes)
+NOTED = tuple(it.name for it in noted_table())
 DISPATCHED = tuple(f"{of}_{kind}" for of in ("i32", "i64") for kind in ("unary", "binary", "compare"))
 
 
@@ -38,7 +41,7 @@ class Operation(Row):
         self.antt = " ".join([self.kind] + [f"{self.lower}.{word}" if self.sort and word == self.last else word for word in self.words])
         known = {self.name, f"{self.kind} {self.of}", self.kind or "-", self.behind or "-", "*"}
         self.marks = frozenset(known if self.variant else {f"float {self.behind}", "float"})
-        self.extends = self.last.lower()
+        self.extends, self.typed = self.last.lower(), self.name[:3]
         self.takes = self.type.upper().partition(" -> ")[0]
         self.leaves = self.type.upper().partition(" -> ")[2]
 
@@ -65,11 +68,12 @@ SYNTAX, CODES, PLACES = "crates/syntax/src", "crates/syntax/specs/Instructions.a
 OPS, TESTS = f"{SYNTAX}/ops.rt", "crates/test_modules/src/operators.rt"
 HEAD, READS, RULES = "crates/decode/src/head.rt", "crates/decode/src/code.rt", "crates/validate/src/instructions.rt"
 INT, DOC, AT = r"^/// `(?P<text>i\d\d\.\w+)`(?:(?!pub fn).)*pub fn (?P<key>\w+)\(", "/// `{name}`: ..\npub fn {function}(", "at, slots, top"
-VARIANT, OP = r"^ *(?P<key>\w+)(?:\([^\n]*\))?,$", r"^(?P<in> *)Op::(?P<key>\w+)(?:\([^)]*\))? => (?P<text>[^\n]*(?:\n(?P=in) {4}[^\n]*)*(?:\n(?P=in)\))?)"
+VARIANT = r"^ *(?P<key>\w+)(?:\([^\n]*\))?,$"
+OP = r"^(?P<in> *)(?:Op::|noted!\()(?P<key>\w+)(?:\([^)]*\))?\)? =>\s(?P<text>[^\n]*(?:\n(?P=in) {4}[^\n]*)*(?:\n(?P=in)\))?)"
 WHOLE = r"\Z"
 WIDE = "(Width::{width}, Extension::{last}) => "
 ALL = [
-    Place("crates/syntax/src/op.rt", {"else": "Else(u16),", "*": "{variant}{fields},"}, VARIANT, r"pub enum Op \{", besides=("Long",)),
+    Place("crates/syntax/src/op.rt", {"else": "Else(u16, u32),", "*": "{variant}{fields},"}, VARIANT, r"pub enum Op \{", besides=("Long", *NOTED)),
     Place("crates/syntax/src/operator.rt", {f"{OPERATORS}|Convert": "{last},"}, r"^ *(?P<key>\w+),$",
           besides=("Signed", "Unsigned", "One", "Two", "Four"), end=WHOLE, grouped=True),
     Place("crates/syntax/src/instruction.rt", {
@@ -78,7 +82,7 @@ ALL = [
         "StoreNarrow": "StoreNarrow(ValType, Width, MemArg),", "labels": "BrTable(Lent<'a, u32>, u32),", "blocktype": "{variant}(BlockType),",
         f"{INDEX}|type": "{variant}(u32),", "*": "{variant},"}, VARIANT, besides=("Plain",), end=WHOLE, grouped=True),
     Place("crates/syntax/specs/Operations.antt", {
-        "else": "operation_of (flat.Else _) = op.Else", "end": "operation_of flat.End = op.End",
+        "else": "operation_of (flat.Else _ _) = op.Else", "end": "operation_of (flat.End _) = op.End",
         "blocktype": "operation_of (flat.{variant} form _ index) = op.{variant} (block_type_of form index)",
         "labels": "operation_of (flat.BrTable _ _) = op.Plain instr.Nop", "label": "operation_of (flat.{variant} _ label) = op.Plain (instr.{kind} label)",
         "type": "operation_of (flat.{variant} type_index) = op.Plain (instr.{kind} type_index)",
@@ -86,17 +90,17 @@ ALL = [
         "memarg": "operation_of (flat.{variant} align offset) = op.Plain (instr.{antt} (arg align offset))",
         "i32": "operation_of (flat.I32Const number) = op.Plain (instr.Const (value.I32 number))",
         "i64": "operation_of (flat.I64Const low) = op.Plain (instr.Const (value.I64 (sign_extended low)))",
-        "Convert": "operation_of flat.{variant} = op.Plain (instr.Convert convert.{last})",
-        NUMERIC: "operation_of flat.{variant} = op.Plain (instr.{antt})", "*": "operation_of flat.{variant} = op.Plain instr.{kind}"},
-        r"^operation_of \(?flat\.(?P<key>\w+)[^\n]*", "operation_of : ", besides=("Long",)),
+        "Convert": "operation_of (flat.{variant} _) = op.Plain (instr.Convert convert.{last})",
+        NUMERIC: "operation_of (flat.{variant} _) = op.Plain (instr.{antt})", "*": "operation_of (flat.{variant} _) = op.Plain instr.{kind}"},
+        r"^operation_of \(?flat\.(?P<key>\w+)[^\n]*", "operation_of : ", besides=("Long", *NOTED)),
     Place(OPS, {
         f"{BRACKET}|labels": None, "label": "Op::{variant}(_, label) => Instr::{kind}(*label),",
         "type": "Op::{variant}(type_index) => Instr::{kind}(*type_index),",
         INDEX: "Op::{variant}({behind}) => Instr::{kind}(*{behind}),", "memarg": "Op::{variant}(align, offset) => Instr::{kind}({rust}, arg(*align, *offset)),",
         "i32": "Op::I32Const(number) => Instr::Const(Value::I32(*number)),", "i64": "Op::I64Const(low) => Instr::Const(Value::I64(sign_extend(*low))),",
-        NUMERIC: "Op::{variant} => Instr::{kind}({rust}),", "*": "Op::{variant} => Instr::{kind},"}, OP, "fn instr_of"),
-    Place(OPS, {"blocktype": "Op::{variant}(form, _, index) => Token::{variant}(block_type(*form, *index)),", "else": "Op::Else(_) => Token::Else,",
-                "end": "Op::End => Token::End,"}, OP, r"pub fn operation\(&self\) -> Token"),
+        NUMERIC: "Op::{variant}(_) => Instr::{kind}({rust}),", "*": "Op::{variant}(_) => Instr::{kind},"}, OP, "fn instr_of"),
+    Place(OPS, {"blocktype": "Op::{variant}(form, _, index) => Token::{variant}(block_type(*form, *index)),", "else": "Op::Else(..) => Token::Else,",
+                "end": "Op::End(_) => Token::End,"}, OP, r"pub fn operation\(&self\) -> Token"),
     Place("crates/syntax/src/coded_op.rt", {
         "Load|Store": "Access::{kind}({of}) => Some(Op::{variant}(align, offset)),", "LoadNarrow I32": WIDE + "Some(Op::{variant}(align, offset)),",
         "LoadNarrow": WIDE + "Op::{variant}(align, offset),", "StoreNarrow": "({of}, Width::{width}) => Some(Op::{variant}(align, offset)),"},
@@ -137,16 +141,16 @@ ALL = [
     Place(CODES, {"if": "sequence ({variant} = byte {hex}"}, r"^sequence \((?P<key>If)[^=]*=\s*(?P<text>byte 0x\w\w)", "sequence : "),
     ByOpcode(HEAD, {
         "float": "Head::Float", "none": "Head::Unknown", BRACKET: "Head::Unknown", "labels": "Head::BrTable", "type": "Head::CallIndirect",
-        "Const": "Head::{of}Const", "memarg": "Head::WithAccess(Access::{kind}({rust}))", "zero": "Head::Reserved(Op::{variant})",
-        INDEX: "Head::WithIndex(Indexed::{variant})", "*": "Head::Whole(Op::{variant})"}, "classify"),
+        "Const": "Head::{of}Const", "memarg": "Head::WithAccess(Access::{kind}({rust}))", "zero": "Head::Reserved(Op::{variant}(0))",
+        INDEX: "Head::WithIndex(Indexed::{variant})", "*": "Head::Whole(Op::{variant}(0))"}, "classify"),
     Place(HEAD, {INDEX: "{variant},"}, VARIANT, "enum Indexed"),
     Place(HEAD, {"label": "Indexed::{variant} => Op::{variant}(0, index),", INDEX: "Indexed::{variant} => Op::{variant}(index),"},
           r"^ *Indexed::(?P<key>\w+) => [^\n]*", "fn with"),
     Place("crates/decode/specs/Inner/Heads.antt", {INDEX: "indexed index.{variant} n = instr.{kind} n"}, r"^indexed index\.(?P<key>\w+)[^\n]*", "indexed : "),
     Place(READS, {
         "block": "{hex} => CodedOp::block(block)", "loop": "{hex} => CodedOp::loop_block(body)", "if": "{hex} => CodedOp::if_block(branch)",
-        "else": "{hex} => CodedOp::new(Op::Else(0))", "end": "{hex} => CodedOp::new(Op::End)"},
-        r"^ *(?P<key>0x\w\w) => .*?(?P<text>CodedOp::\w+\((?:Op::End|Op::Else\(0\)|\w+)\))", r"fn operation\("),
+        "else": "{hex} => CodedOp::new(Op::Else(0, 0))", "end": "{hex} => CodedOp::new(Op::End(0))"},
+        r"^ *(?P<key>0x\w\w) => .*?(?P<text>CodedOp::\w+\((?:Op::End\(0\)|Op::Else\(0, 0\)|\w+)\))", r"fn operation\("),
     Place(READS, {"labels|type": "fn {name}(\nbehind_opcode {hex}"},
           r"^fn (?P<key>br_table|call_indirect)\(.*?behind_opcode (?P<text>0x\w\w)", end=WHOLE),
     Listed("crates/places/src/index.rt", {"float": 'Some("{name}"),', "*": 'Some("{name}"),'}, r"(?P<text>Some\([^)]*\),|None,)", "^pub.*NAMES: ", "None,"),
@@ -177,15 +181,12 @@ ALL = [
     Place("crates/numeric/src/convert.rt", {"Convert": DOC}, INT, end=WHOLE),
     Place("crates/numeric/src/lib.rt", {NUMERIC: "{function},"}, r"\b(?P<key>i(?:32|64)_\w+)(?P<text>)", "^mod trap;", r"\Z", besides=DISPATCHED, grouped=True),
     Place("crates/engine/src/act.rt", {
-        "i32.add": f"Op::I32Add => first_sum({AT}, cue),", "i32.eqz": f"Op::I32Eqz => first_test_zero({AT}, cue),",
-        "Eqz": f"Op::{{variant}} => eqz({AT}, {{of}}),",
-        "Compare I32": f"Op::{{variant}} => first_test({AT}, {{sort}}::{{last}}, cue),", "Convert": f"Op::{{variant}} => convert({AT}, {{sort}}::{{last}}),",
-        OPERATORS: f"Op::{{variant}} => {{lower}}({AT}, {{of}}, {{sort}}::{{last}}),",
-        "i32.load": f"Op::{{variant}}(align, to) => first_load(state, {AT}, arg(align, to), cue),",
-        "Load|Store": f"Op::{{variant}}(align, to) => {{lower}}(state, {AT}, {{of}}, arg(align, to)),",
-        "LoadNarrow": f"Op::{{variant}}(align, to) => load_{{extends}}(state, {AT}, {{of}}, {{width}}, arg(align, to)),",
-        "StoreNarrow": f"Op::{{variant}}(align, to) => store_narrow(state, {AT}, {{of}}, {{width}}, arg(align, to)),", "*": "Op::{variant} => .."}, OP,
-         r"match \*op \{", besides=("Long",), grouped=True),
+        "Eqz": f"Op::{{variant}}(_) => eqz({AT}, {{of}}),", "Convert": f"Op::{{variant}}(_) => convert({AT}, {{sort}}::{{last}}),",
+        OPERATORS: f"Op::{{variant}}(_) => {{lower}}({AT}, {{of}}, {{sort}}::{{last}}),",
+        "Load|Store": f"Op::{{variant}}(align, to) => {{lower}}_{{typed}}(state, {AT}, align, to),",
+        "LoadNarrow": f"Op::{{variant}}(align, to) => load_{{extends}}_{{typed}}(state, {AT}, {{width}}, align, to),",
+        "StoreNarrow": f"Op::{{variant}}(align, to) => store_narrow_{{typed}}(state, {AT}, {{width}}, align, to),", "*": "Op::{variant}(_) => .."}, OP,
+         r"match \*op \{", besides=("Long", *NOTED), grouped=True),
     Place("crates/interp/proofs/Slots/Ranges.antt", {"Binary": "binary_low {last} a b h l = .."},
           r"^(?P<key>binary_low \w+)(?P<text>[^:=\n]*=[^\n]*)", end=WHOLE, grouped=True),
     Place("crates/reduction/specs/Operators.antt", {"Convert": "converted {last} ({takes} n) = Some ({leaves} .."},
@@ -204,8 +205,8 @@ PLANTED = [  # what is wrong, and where which text becomes which
     ("the fields of a variant", f"{SYNTAX}/op.rt", r"I32Load8U\(u8", "I32Load8U(u16"),
     ("an operator more", f"{SYNTAX}/operator.rt", "    Rotr,", "    Rotr,\n    Nor,"),
     ("the fields of an instruction", f"{SYNTAX}/instruction.rt", "LocalTee\\(u32", "LocalTee(u64"),
-    ("another instruction", "crates/syntax/specs/Operations.antt", r"(flat.I32Sub = .* binary\.)Sub", r"\1Mul"),
-    ("another instruction in Rust", OPS, r"(Op::I64LtS => .*IntCompare::)LtS", r"\1LtU"),
+    ("another instruction", "crates/syntax/specs/Operations.antt", r"(flat.I32Sub _\) = .* binary\.)Sub", r"\1Mul"),
+    ("another instruction in Rust", OPS, r"(Op::I64LtS\(_\) => .*IntCompare::)LtS", r"\1LtU"),
     ("another bracket", OPS, "Token::Loop", "Token::Block"),
     ("another access", f"{SYNTAX}/coded_op.rt", r"(Unsigned\) => Op::I64Load)16U", r"\g<1>8U"),
     ("an opcode", CODES, "Popcnt = 0x69", "Popcnt = 0x68"),
@@ -240,8 +241,8 @@ PLANTED = [  # what is wrong, and where which text becomes which
     ("what a function says", "crates/numeric/src/int64.rt", "/// `i64.ge_u`", "/// `i64.gt_u`"),
     ("a conversion", "crates/numeric/src/convert.rt", "pub fn i64_extend_i32_s", "pub fn i64_extend_i32_u"),
     ("a name that isn't public", "crates/numeric/src/lib.rt", "i32_xor,", ""),
-    ("an operation does what another does", "crates/engine/src/act.rt", r"(Op::I64Mul => .*IntBinary::)Mul", r"\1Add"),
-    ("an operation does nothing", "crates/engine/src/act.rt", "        Op::Drop => .*\n", ""),
+    ("an operation does what another does", "crates/engine/src/act.rt", r"(Op::I64Mul\(_\) => .*IntBinary::)Mul", r"\1Add"),
+    ("an operation does nothing", "crates/engine/src/act.rt", "        Op::Drop\\(_\\) => .*\n", ""),
     ("a case of a proof", "crates/interp/proofs/Slots/Ranges.antt", "binary_low Mul .*\n", ""),
     ("what a conversion gives", "crates/reduction/specs/Operators.antt", r"Some \(I64 n\)", "Some (I32 n)"),
     ("what a test expects", "crates/test_modules/src/decoding.rt", r"0xc0\.\.=0xc4 => None", "0xc0..=0xc3 => None"),

@@ -1,12 +1,12 @@
 #!/usr/bin/env python3
 """Whether the engine still does in one dispatch what it did: instructions and dispatches of the processor for each unit of fuel, counted by
-callgrind, in loops of nothing but likely pairs, of blocks in a row, of branches whose targets are kept in few numbers and of calls, and in requests
+callgrind, in loops of nothing but likely sequences, of blocks in a row, of branches whose targets are kept in few numbers and of calls, and in requests
 of two guests.
 
     run.py PROGRAM          status 1 where one is not as its line of expected.txt says, to 0.01
     run.py PROGRAM --write  writes expected.txt, which belongs to the bytes of PROGRAM: a change of the engine or of the compiler changes it
 
-No clause and no other test notices if `likely` never does an operation, `tell_rows` returns no number, or `BranchTargets` keeps no few numbers: such
+No clause and no other test notices if `rest` never does an operation, `tell_behind` notes none, or `BranchTargets` keeps no few numbers: such
 bodies are correct, and slow. Each number is the difference of two runs, so that the start of the process and the loading are in neither, and
 counts only what stands in PROGRAM itself, so that it is the same on each processor and over each C library. A dispatch is a jump or a call to an
 address that was computed. Less is told too: who gained it notes it, so that its loss is seen.

@@ -55,11 +55,11 @@ QUIET = 30
 # The processor seconds that `rt ci` takes for a crate's proof, and for compiling a program: the first column of tools/gate.txt. A crate of another
 # name is guessed to take as long as most.
 TAKES = {
-    "limits": 6, "tallies": 7, "schedules": 10, "slot": 13, "reduction": 16, "files": 16, "desk": 19, "world_log": 21, "events": 22,
-    "marks": 27, "leb": 32, "embed": 32, "numeric": 34, "loader": 38, "claims": 40, "pool": 40, "working": 52, "handles": 55, "imports": 58,
-    "scripting": 59, "example_plugin": 63, "example_clock": 70, "places": 78, "running": 80, "world": 87, "resident": 89, "instance": 90,
-    "commands": 90, "example_host": 93, "flaws": 98, "interp": 99, "board": 103, "syntax": 104, "order": 118, "script": 134, "words": 136,
-    "wasmloop": 166, "decode": 202, "sentences": 240, "validate": 252, "engine": 257, "phases": 260, "serve": 282, "wasmloop_c": 380,
+    "limits": 6, "tallies": 7, "schedules": 10, "slot": 13, "reduction": 16, "files": 16, "desk": 19, "world_log": 21, "events": 22, "marks": 27,
+    "leb": 32, "embed": 32, "numeric": 34, "loader": 38, "claims": 40, "pool": 40, "working": 52, "handles": 55, "imports": 58, "scripting": 59,
+    "example_plugin": 63, "example_clock": 70, "places": 78, "running": 80, "world": 87, "resident": 89, "instance": 90, "commands": 90,
+    "example_host": 93, "flaws": 98, "board": 103, "order": 118, "interp": 130, "script": 134, "words": 136, "wasmloop": 166, "syntax": 190,
+    "decode": 202, "sentences": 240, "validate": 252, "phases": 260, "serve": 282, "wasmloop_c": 380, "engine": 470,
 }
 GUESSED = 100
 # How many seconds the pace that is seen needs before it counts as much as the one that was measured.

@@ -114,8 +114,7 @@ def place_in(file: str, text: str, old: str, homes: Mapping[str, List[str]]) -> 
     head = next((it for it in range(at, -1, -1) if FN.match(lines[it])), None)
     if head is None or CLAUSE.match(lines[at]):
         return Alone("it changes a clause, or what is in no function")
-    opened = next((it for it in range(head, len(lines)) if lines[it].rstrip().endswith("{") and depth(lines[it]) <= depth(lines[head])), head)
-    closed = next((it for it in range(opened, len(lines)) if lines[it].startswith(" " * depth(lines[head]) + "}")), len(lines))
+    opened, closed = body(lines, head)
     if not opened < at < closed:
         return Alone("it changes what is in no body of a function")
     above = attributes(lines, head)
@@ -125,17 +124,29 @@ def place_in(file: str, text: str, old: str, homes: Mapping[str, List[str]]) -> 
     return name if isinstance(name, Alone) else Place(name, file, head + 1 - len(above), closed + 1)
 
 
+def body(lines: Sequence[str], head: int) -> Tuple[int, int]:
+    """The lines between which the body of a function stands."""
+    opened = next((it for it in range(head, len(lines)) if lines[it].rstrip().endswith("{") and depth(lines[it]) <= depth(lines[head])), head)
+    closed = next((it for it in range(opened, len(lines)) if lines[it].startswith(" " * depth(lines[head]) + "}")), len(lines))
+    return opened, closed
+
+
 def named(file: str, lines: Sequence[str], head: int, homes: Mapping[str, List[str]]) -> str:
     """The function's name below its crate, or why it has none that is known. A method stands in its type's module, wherever its `impl` stands."""
     name = name_in(lines[head])
     if not depth(lines[head]):
         return "::".join([*modules_of(file), name])
-    owner = next((it for it in range(head, -1, -1) if not depth(lines[it]) and lines[it].strip()), head)
-    last = next((it for it in range(owner, head) if lines[it].rstrip().endswith("{")), owner)
-    of = type_of_impl(" ".join(lines[owner: last + 1]))
+    of = type_of_impl(impl_over(lines, head))
     if not of or depth(lines[head]) > depth("    "):
         return Alone("its function is in another one, or in a trait")
     return "::".join([*homes.get(of, modules_of(file)), of, name])
+
+
+def impl_over(lines: Sequence[str], head: int) -> str:
+    """The first words of the `impl` that a method stands in, up to its brace."""
+    owner = next((it for it in range(head, -1, -1) if not depth(lines[it]) and lines[it].strip()), head)
+    last = next((it for it in range(owner, head) if lines[it].rstrip().endswith("{")), owner)
+    return " ".join(line.strip() for line in lines[owner: last + 1])
 
 
 def name_in(line: str) -> str:

@@ -21,12 +21,13 @@ sys.path.insert(0, TOP)
 import build  # noqa: E402
 import edits as edits_of_tree  # noqa: E402
 import kept  # noqa: E402
+import left_open  # noqa: E402
 import verdicts  # noqa: E402
 from edits import PARTS, Copy, Edit, copies_of  # noqa: E402
 from verdicts import BAD, KEPT, MISSED, REFUSED, UNSURE, told_in, verdict  # noqa: E402
 
 # What a verdict is made by: what it was is kept as long as these are the same.
-MADE_BY = [__file__, edits_of_tree.__file__, verdicts.__file__]
+MADE_BY = [__file__, edits_of_tree.__file__, left_open.__file__, verdicts.__file__]
 # What a check takes of memory at most, in bytes; and how long it waits between two looks whether that is free, or libraries are there.
 CHECK, LOOK = 3_000_000_000, 1.0
 
@@ -89,13 +90,14 @@ class Trier:
         self.checks = 0
         self.apart: Set[Edit] = set()
 
-    def check(self, texts: Mapping[str, str], functions: Sequence[str]) -> Tuple[int, str]:
-        """Checks these functions, or else all, of a copy of the crate with these texts; returns the status, and what is said."""
+    def check(self, texts: Mapping[str, str], functions: Sequence[str], are_alone: bool = False) -> Tuple[int, str]:
+        """Checks these functions, or else all, of a copy of the crate with these texts; returns the status, and what is said. The proofs of those
+        that they call are left open where these are to be checked alone."""
         self.checks += 1
         with Memory(self.rtlib, self.over):
-            return self.check_now(texts, functions)
+            return self.check_now(texts, functions, are_alone)
 
-    def check_now(self, texts: Mapping[str, str], functions: Sequence[str]) -> Tuple[int, str]:
+    def check_now(self, texts: Mapping[str, str], functions: Sequence[str], are_alone: bool) -> Tuple[int, str]:
         """The check itself, which another one may run beside."""
         flags = [word for it in functions for word in ("--only", it)]
         with tempfile.TemporaryDirectory(prefix="wrong-") as room:
@@ -105,7 +107,11 @@ class Trier:
             for file, text in texts.items():
                 with open(f"{room}/{file}", "w", encoding="utf-8") as it:
                     it.write(text)
-            words = [self.rtlib.RATTLE, "check", *self.crate.words(["--jobs", "1", *flags], keeps=False), "--incremental", self.checked]
+            if are_alone and left_open.leave_open(room, self.crate.name, functions):
+                flags.append("--allow-holes")
+            # (with a folder to keep it in, rattle checks all that is new, asked for or not)
+            kept = [] if are_alone else ["--incremental", self.checked]
+            words = [self.rtlib.RATTLE, "check", *self.crate.words(["--jobs", "1", *flags], keeps=False), *kept]
             ran = self.run(words, room)
             if ran.returncode == -signal.SIGKILL:
                 # (most likely for memory: once more)
@@ -120,7 +126,7 @@ class Trier:
 
     def together(self, copy: Copy) -> Dict[Edit, Optional[Tuple[str, str]]]:
         """Tries a copy, and returns what is known by it. One whose function has another name than was guessed is left out."""
-        status, said = self.check(copy.texts, copy.functions())
+        status, said = self.check(copy.texts, copy.functions(), are_alone=True)
         lost = re.search(r"has no function `([^`]+)`", said)
         if status == 2 and lost:
             left = Copy()
@@ -128,7 +134,7 @@ class Trier:
                 if lost[1] not in edit.functions:
                     left.takes(edit)
             return self.together(left) if left.edits else {}
-        if not re.search(r"^only=\d+ proved=\d+", said, re.M):
+        if not re.search(r"^only=\d+ (?:proved|holes)=\d+", said, re.M):
             # (one of them is no code, say)
             self.apart.update(copy.edits)
             return {}

@@ -16,7 +16,7 @@ a line `file: src/..` and pairs of lines `old: TEXT` and `new: TEXT`, as the kit
 
 A function is proved over the contracts of those that it calls, never over their bodies. So bodies of different functions can be wrong at once,
 and each verdict is still of one of them. Here a crate's wrong bodies are put into as few copies of it as possible, at most one in a function; each
-copy is checked for these functions and what they call (`rattle check --only`), over what the copy before left of unchanged modules. A
+copy is checked for these functions alone (`rattle check --only`): the proofs of those that they call are left open (tools/left_open.py). A
 wrong body counts as refused if its own function is said not to be proved, and a goal of it, for other reasons than that a proof names what is
 gone; and it is one of those that `# refused:` names, where that line is there. `rt ci` accepts a failure anywhere in the crate.
 

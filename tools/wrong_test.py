@@ -3,9 +3,11 @@ all are refused as they say."""
 
 from __future__ import annotations
 
+import glob
 import os
 import sys
 import tempfile
+from pathlib import Path
 from typing import Dict, List, Mapping, Optional, Sequence
 
 TOP = os.path.dirname(os.path.dirname(os.path.realpath(__file__)))
@@ -13,6 +15,7 @@ sys.dont_write_bytecode = True
 sys.path.insert(0, TOP)
 import build  # noqa: E402
 from edits import Alone, Edit, Place, place_in  # noqa: E402
+from left_open import leave_open  # noqa: E402
 from trier import Kept, Trier  # noqa: E402
 from verdicts import BAD, ELSEWHERE, MISSED, REFUSED, told_in, verdict  # noqa: E402
 
@@ -43,6 +46,7 @@ note: src/h.rt:8:1: it is not proved that what the function ensures holds when i
 note: src/h.rt:30:1: it is not proved that what the function ensures holds when it returns (`returns-clause-d`)
 fn c::h: not proved
 fn c::i: no proof: it calls `c::h`, which is not proved
+fn c::j: depends on a hole in `Rattle.c.proofs.k.Proof.k_spec`
 """
 LEMMAS = """crates/c/proofs/Lemmas.antt:3:1: error: `one_more`: the two types first differ where one has `0`
 crates/c/proofs/Lemmas.antt:9:1: error: `two_more`: `gone` is not in scope
@@ -50,7 +54,7 @@ crates/c/proofs/h/Answers.antt:4:5: error: 1 declaration that depends on `one_mo
 fn c::f: proved
 fn c::h: not proved
 """
-TOLD: Dict[str, List[str]] = {"f": [], "m::One::g": ["a", "fits"], "h": ["b", "c"]}
+TOLD: Dict[str, List[str]] = {"f": [], "m::One::g": ["a", "fits"], "h": ["b", "c"], "j": []}
 
 
 class Said:
@@ -60,10 +64,24 @@ class Said:
         self.functions, self.wanted = functions, wanted or {}
 
 
+def left() -> List[str]:
+    """What is wrong with which bodies and proofs are left out."""
+    with tempfile.TemporaryDirectory(prefix="wrong-open-") as room:
+        for file, text in {"src/m.rt": CODE, "proofs/m/+h/Answers.antt": "", "proofs/m/+h/Laws.antt": "", "proofs/m/i/Invariants.antt": ""}.items():
+            os.makedirs(os.path.dirname(f"{room}/{file}"), exist_ok=True)
+            Path(f"{room}/{file}").write_text(text, encoding="utf-8")
+        count = leave_open(room, "c", ["m::i"])
+        found = sorted(os.path.relpath(it, f"{room}/proofs/m") for it in glob.glob(f"{room}/proofs/**/*.antt", recursive=True))
+        cites, code = [Path(f"{room}/{it}").read_text(encoding="utf-8") for it in ("proofs/m/+h/Proof.antt", "src/m.rt")]
+    right = count == 2 and found == ["+h/Laws.antt", "+h/Proof.antt", "g/Proof.antt", "i/Invariants.antt"]
+    right = right and cites.startswith("use Rattle.c.proofs.m.+h.{statement}\n") and code == CODE.replace("    2", "    loop {}")
+    return [] if right else [f"left out are {count}, of {found}, by {cites!r}, in {code!r}"]
+
+
 def known() -> int:
-    """The planning, and the reading of what rattle says, on texts that are known."""
+    """The planning, the proofs left open, and the reading of what rattle says, on texts that are known."""
     places = {"let a = 1;": "m::OneTwo::f", "    2": "m::g", "requires x { a }": Alone, "use a::b;": Alone, "pub fn f(self)": Alone, "u8 = 3": Alone}
-    wrong: List[str] = []
+    wrong = left()
     for old, what in places.items():
         place = place_in("src/m.rt", CODE, old, {"OneTwo": ["m"]})
         is_right = isinstance(place, Alone) if what is Alone else isinstance(place, Place) and place.name == what
@@ -81,7 +99,7 @@ def known() -> int:
     for edit, kind in verdicts:
         found = verdict(edit, TOLD)
         wrong += [] if (found and found[0]) == kind else [f"{edit.functions} by {edit.wanted}: {found}, not {kind}"]
-    print("\n".join(wrong) or f"{len(places) + 3 + len(verdicts)} known answers are found")
+    print("\n".join(wrong) or f"{len(places) + 4 + len(verdicts)} known answers are found")
     return 1 if wrong else 0
 
 
@@ -106,12 +124,19 @@ pub fn twice(a: u8) -> u8
     more(more(a))
 }
 
-/// As it is.
+/// Nothing.
+fn nothing() -> u8
+    ensures { result ≡ 0 }
+{
+    0
+}
+
+/// As it is. No wrong body is in what it calls, whose proof is left open.
 pub fn same(a: u8) -> u8
     ensures { result ≡ a }
 {
     let b = a;
-    b
+    b + nothing()
 }
 """
 PLANTS = {

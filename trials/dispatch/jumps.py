@@ -5,10 +5,11 @@ its way (crates/engine/src/ways.rt); with one more the compiler lets all share o
 each operation, which takes ten times as long, and in no loop that has a single caller is it seen. No clause notices either.
 
     jumps.py FILE..          FILE is a program or libwasmloop.a: status 1 where a loop is not as its line of jumps.txt says
-    jumps.py FILE.. --write  writes jumps.txt, which belongs to the bytes of these files: a change of the engine or of the compiler changes it
+    jumps.py FILE.. --write  writes their lines of jumps.txt, which belong to the bytes of these files: a change of the engine or of the compiler
+                             changes them
     jumps.py --self-test     counts a loop whose numbers are known
 
-It reads what `objdump -d` tells of each FILE. A loop is a function that jumps to at least 20 addresses that were computed. An edge is a direct jump
+It reads what `objdump -d` tells of each FILE. A loop is a function that jumps to at least 30 addresses that were computed. An edge is a direct jump
 into the straight stretch that ends in such a jump, or the way from what stands above the stretch; a jump that has one edge is an arm's own.
 """
 from __future__ import annotations
@@ -19,10 +20,12 @@ import shutil
 import subprocess
 import sys
 from pathlib import Path
-from typing import Collection, Dict, Iterator, List, NamedTuple
+from typing import Dict, Iterator, List, NamedTuple
+
+from noted import compare
 
 LIST = Path(__file__).with_name("jumps.txt")
-FEWEST, LONGEST = 20, 12
+FEWEST, LONGEST = 30, 12
 ENDS = ("jmp", "ret", "ud2", "hlt")
 
 
@@ -88,9 +91,8 @@ def counted(told: str) -> Dict[str, Loop]:
     return loops
 
 
-def expected(files: Collection[str]) -> Dict[str, Loop]:
-    """The lines of these files."""
-    lines = (line.split(": ", 1) for line in LIST.read_text().splitlines() if line.split()[0] in files)
+def noted() -> Dict[str, Loop]:
+    lines = (line.split(": ", 1) for line in LIST.read_text().splitlines())
     return {name: Loop(*map(int, re.findall(r"\d+", rest))) for name, rest in lines}
 
 
@@ -120,16 +122,12 @@ def main() -> int:
         print("left out: there is no objdump")
         return 0
     found = {name: its for file in files for name, its in loops_of(file).items()}
+    named = {Path(file).name for file in files}
     if "--write" in sys.argv[1:]:
-        LIST.write_text("".join(f"{name}: {its}\n" for name, its in found.items()))
+        others = {name: its for name, its in noted().items() if name.split()[0] not in named}
+        LIST.write_text("".join(f"{name}: {its}\n" for name, its in {**others, **found}.items()))
         return 0
-    known = expected([Path(file).name for file in files])
-    for name, its in found.items():
-        print(f"{name}: {its}" + ("" if known.get(name) == its else f", expected {known.get(name, 'nothing')}: is this meant?"))
-    lost = [f"there is no {name}" for name in known if name not in found]
-    wrong = lost + [name for name, its in found.items() if known.get(name) != its]
-    print("\n".join(lost + [f"{len(found)} loops, {len(wrong)} not as expected" + (": FAILED, or renew by --write" if wrong else "")]))
-    return int(bool(wrong))
+    return compare(found, {name: its for name, its in noted().items() if name.split()[0] in named}, "loops")
 
 
 if __name__ == "__main__":

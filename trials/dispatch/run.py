@@ -23,6 +23,7 @@ from pathlib import Path
 from typing import Dict, Iterator, List, NamedTuple
 
 sys.path.insert(0, str(Path(__file__).resolve().parents[1] / "spec"))
+from noted import compare  # noqa: E402
 from wasm import name as sized, vec  # noqa: E402
 
 LIST = Path(__file__).with_name("expected.txt")
@@ -37,9 +38,12 @@ class Count(NamedTuple):
     def each(self, before: Count) -> Count:
         return Count(*((now - then) / (MANY - FEW) for now, then in zip(self, before)))
 
-    def differs(self, known: Count) -> bool:
+    def is_near(self, known: Count) -> bool:
         # (the half is for the number that is written with two digits)
-        return any(abs(one - other) > EXACT * 1.5 for one, other in zip(self, known))
+        return all(abs(one - other) <= EXACT * 1.5 for one, other in zip(self, known))
+
+    def told(self) -> str:
+        return f"{self.instructions:.2f} instructions and {self.dispatches:.2f} dispatches per unit"
 
     def __str__(self) -> str:
         return f"{self.instructions:.2f} {self.dispatches:.2f}"
@@ -115,7 +119,7 @@ def measured(program: str) -> Iterator[tuple[str, Count]]:
             yield name, count(words, MANY, folder).each(count(words, FEW, folder))
 
 
-def expected() -> Dict[str, Count]:
+def noted() -> Dict[str, Count]:
     return {name: Count(*map(float, rest.split())) for name, rest in (line.split(": ") for line in LIST.read_text().splitlines())}
 
 
@@ -129,14 +133,7 @@ def main() -> int:
     if sys.argv[2:]:
         LIST.write_text("".join(f"{name}: {each}\n" for name, each in found.items()))
         return 0
-    known = expected()
-    others = [name for name, each in found.items() if name not in known or each.differs(known[name])]
-    for name, each in found.items():
-        wrong = f", expected {known.get(name, 'nothing')}: is this meant?" if name in others else ""
-        print(f"{name}: {each.instructions:.2f} instructions and {each.dispatches:.2f} dispatches per unit{wrong}")
-    others += [f"there is no {name}" for name in known if name not in found]
-    print(f"{len(found)} loops and requests, {len(others)} not as expected" + (": FAILED, or renew by --write" if others else ""))
-    return int(bool(others))
+    return compare(found, noted(), "loops and requests", Count.told, Count.is_near)
 
 
 if __name__ == "__main__":

@@ -7,7 +7,7 @@ import glob
 import os
 import sys
 from pathlib import Path
-from typing import Collection, Dict, Iterator, List, NamedTuple, Tuple
+from typing import Collection, Iterator, List, Mapping, Sequence, Tuple
 
 TOP = os.path.dirname(os.path.dirname(os.path.realpath(__file__)))
 sys.dont_write_bytecode = True
@@ -19,30 +19,24 @@ OPEN = "use Rattle.{library}.{{statement}}\n\npub {name}_spec : {{M : Type 1}} â
 ANSWERS = ("Answers.antt", "Invariants.antt")
 
 
-class Body(NamedTuple):
-    """The lines of a file between which a function's body stands."""
-
-    file: str
-    opened: int
-    closed: int
-
-
 def leave_open(folder: str, crate: str, but: Collection[str]) -> int:
     """Leaves out the bodies and proofs of a copy of a crate, but those of these functions, by their names below the crate; returns how many."""
-    bodies = {name: it for name, it in bodies_in(folder) if name not in but}
     proofs = {name: where for name, where in proofs_in(folder) if name not in but}
-    for name in {*bodies, *proofs}:
+    homes, left = homes_in(folder), {*proofs}
+    for path in glob.glob(f"{folder}/src/**/*.rt", recursive=True):
+        lines = Path(path).read_text(encoding="utf-8").split("\n")
+        for name, opened, closed in [*bodies_in(os.path.relpath(path, folder), lines, homes)]:
+            if name in but:
+                continue
+            left.add(name)
+            # (one that calls itself has a proof of another name once it doesn't)
+            if "+" not in proofs.get(name, ""):
+                # (as many lines as before, since rattle tells places by them)
+                lines[opened + 1: closed] = ["    loop {}", *[""] * (closed - opened - 2)]
+        Path(path).write_text("\n".join(lines), encoding="utf-8")
+    for name in left:
         leave_proof(folder, crate, proofs.get(name, name.replace("::", "/")))
-    texts: Dict[str, List[str]] = {}
-    for name, it in bodies.items():
-        # (one that calls itself has a proof of another name once it doesn't)
-        if "+" not in proofs.get(name, ""):
-            lines = texts.setdefault(it.file, Path(it.file).read_text(encoding="utf-8").split("\n"))
-            # (as many lines as before, since rattle tells places by them)
-            lines[it.opened + 1: it.closed] = ["    loop {}", *[""] * (it.closed - it.opened - 2)]
-    for file, lines in texts.items():
-        Path(file).write_text("\n".join(lines), encoding="utf-8")
-    return len({*bodies, *proofs})
+    return len(left)
 
 
 def leave_proof(folder: str, crate: str, where: str) -> None:
@@ -63,15 +57,12 @@ def proofs_in(folder: str) -> Iterator[Tuple[str, str]]:
             yield where.replace("+", "").replace("/", "::"), where
 
 
-def bodies_in(folder: str) -> Iterator[Tuple[str, Body]]:
-    """The functions of modules and the methods of types that are of no trait, and where their bodies stand."""
-    homes = homes_in(folder)
-    for path in glob.glob(f"{folder}/src/**/*.rt", recursive=True):
-        lines = Path(path).read_text(encoding="utf-8").split("\n")
-        for at in [it for it, line in enumerate(lines) if FN.match(line)]:
-            name, words = named(os.path.relpath(path, folder), lines, at, homes), [lines[at], *attributes(lines, at)]
-            is_other = depth(lines[at]) and " for " in impl_over(lines, at)
-            if not (isinstance(name, Alone) or is_other or any(it in word for it in ("const fn", "cycle(", "test") for word in words)):
-                opened, closed = body(lines, at)
-                if opened + 1 < closed < len(lines):
-                    yield name, Body(path, opened, closed)
+def bodies_in(file: str, lines: Sequence[str], homes: Mapping[str, List[str]]) -> Iterator[Tuple[str, int, int]]:
+    """The functions of a module and the methods of types that are of no trait, and the lines between which their bodies stand."""
+    for at in [it for it, line in enumerate(lines) if FN.match(line)]:
+        name, words = named(file, lines, at, homes), [lines[at], *attributes(lines, at)]
+        is_other = depth(lines[at]) and " for " in impl_over(lines, at)
+        if not (isinstance(name, Alone) or is_other or any(it in word for it in ("const fn", "cycle(", "test") for word in words)):
+            opened, closed = body(lines, at)
+            if opened + 1 < closed < len(lines):
+                yield name, opened, closed

@@ -91,8 +91,8 @@ class Trier:
         self.apart: Set[Edit] = set()
 
     def check(self, texts: Mapping[str, str], functions: Sequence[str], are_alone: bool = False) -> Tuple[int, str]:
-        """Checks these functions, or else all, of a copy of the crate with these texts; returns the status, and what is said. The proofs of those
-        that they call are left open where these are to be checked alone."""
+        """Checks these functions, or else all, of a copy of the crate with these texts; returns the status, and what is said. Of all others the
+        bodies and proofs are left out where these are to be checked alone."""
         self.checks += 1
         with Memory(self.rtlib, self.over):
             return self.check_now(texts, functions, are_alone)

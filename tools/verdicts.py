@@ -12,7 +12,7 @@ GONE = re.compile(r"has no field|is not in scope|has no `|was not admitted")
 # an error at a line of a proof: its folder below proofs/, the goal where it names one, and what it says
 ERROR = re.compile(r"(?m)(?:^|/)proofs/(?:(\S*)/)?[^\s/]+\.antt:\d+:\d+: error: (?:`([^`]+)`: )?(.*)")
 # what a function's line says that is proved, over the contracts of functions whose proofs are left open or not
-IS_PROVED = ("proved", "depends on a hole in", "no holes")
+IS_PROVED = re.compile(r"proved|no holes|depends on a hole in .*")
 REFUSED, MISSED, ELSEWHERE, BAD, UNSURE = "refused", "NOT REFUSED", "NOT REFUSED AS SAID", "BAD EDIT", "NOT TRIED"
 KEPT, UNNAMED = " (kept from an earlier run)", "what rattle does not name"
 
@@ -36,7 +36,7 @@ def told_in(said: str, places: Sequence[Place] = ()) -> Told:
     told, errors = Told({}, {}), ERROR.findall(said)
     lemmas = list(dict.fromkeys(goal for _, goal, why in errors if goal and not GONE.search(why)))
     for name, words in re.findall(r"^fn \w+::(\S+): (.*)", said, re.M):
-        if words.startswith(IS_PROVED):
+        if IS_PROVED.fullmatch(words):
             told.goals[name] = []
         if words.startswith("not proved") and lemmas:
             told.lemmas[name] = lemmas

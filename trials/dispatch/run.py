@@ -24,7 +24,7 @@ from typing import Dict, Iterator, List, NamedTuple
 
 sys.path.insert(0, str(Path(__file__).resolve().parents[1] / "spec"))
 from noted import compare  # noqa: E402
-from wasm import name as sized, vec  # noqa: E402
+from wasm import name as sized, section, vec  # noqa: E402
 
 LIST = Path(__file__).with_name("expected.txt")
 EXAMPLES = Path(__file__).resolve().parents[2] / "examples"
@@ -47,10 +47,6 @@ class Count(NamedTuple):
 
     def __str__(self) -> str:
         return f"{self.instructions:.2f} {self.dispatches:.2f}"
-
-
-def section(number: int, contents: bytes) -> bytes:
-    return bytes([number]) + sized(contents)
 
 
 def module(*bodies: bytes) -> bytes:

@@ -82,6 +82,10 @@ def name(text: bytes) -> bytes:
     return u(len(text)) + text
 
 
+def section(number: int, contents: bytes) -> bytes:
+    return bytes([number]) + name(contents)
+
+
 def limits(r: Reader) -> Limits:
     flag = r.byte()
     if flag > 1:
@@ -371,23 +375,22 @@ class Module:
         self.exports.append((field, FUNCTION, len(self.functions) - 1))
 
     def write(self) -> bytes:
-        def section(number: int, items: Sequence[bytes]) -> bytes:
-            contents = vec(items)
-            return bytes([number]) + u(len(contents)) + contents if items else b""
+        def listed(number: int, items: Sequence[bytes]) -> bytes:
+            return section(number, vec(items)) if items else b""
 
         bodies = [vec([u(n) + bytes([t]) for n, t in locals_]) + body for _, locals_, body in self.functions]
-        start = b"" if self.start is None else b"\x08" + u(len(u(self.start))) + u(self.start)
+        start = b"" if self.start is None else section(8, u(self.start))
         return (b"\0asm\1\0\0\0"
-                + section(1, [b"\x60" + vec([bytes([t]) for t in a]) + vec([bytes([t]) for t in b]) for a, b in self.types])
-                + section(3, [u(f[0]) for f in self.functions])
-                + section(4, [bytes([t]) + write_limits(least, most) for t, least, most in self.tables])
-                + section(5, [write_limits(*m) for m in self.memories])
-                + section(6, [bytes([t, m]) + value for t, m, value in self.globals])
-                + section(7, [name(n) + bytes([k]) + u(to) for n, k, to in self.exports])
+                + listed(1, [b"\x60" + vec([bytes([t]) for t in a]) + vec([bytes([t]) for t in b]) for a, b in self.types])
+                + listed(3, [u(f[0]) for f in self.functions])
+                + listed(4, [bytes([t]) + write_limits(least, most) for t, least, most in self.tables])
+                + listed(5, [write_limits(*m) for m in self.memories])
+                + listed(6, [bytes([t, m]) + value for t, m, value in self.globals])
+                + listed(7, [name(n) + bytes([k]) + u(to) for n, k, to in self.exports])
                 + start
-                + section(9, [b"\0" + offset + vec([u(f) for f in items]) for offset, items in self.elements])
-                + section(10, [u(len(b)) + b for b in bodies])
-                + section(11, [b"\0" + offset + name(contents) for offset, contents in self.data]))
+                + listed(9, [b"\0" + offset + vec([u(f) for f in items]) for offset, items in self.elements])
+                + listed(10, [name(b) for b in bodies])
+                + listed(11, [b"\0" + offset + name(contents) for offset, contents in self.data]))
 
 
 def same(one: FunctionType, other: FunctionType) -> bool:

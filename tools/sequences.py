@@ -20,8 +20,9 @@ COMPARISONS = "eq ne lt_s lt_u gt_s gt_u le_s le_u ge_s ge_u".split()
 PLAIN = {
     "get": ("LocalGet", "local"), "set": ("LocalSet", "local"), "tee": ("LocalTee", "local"), "c": ("I32Const", "number"), "if": ("BrIf", "branch"),
     "l": ("I32Load", "access"), "l8": ("I32Load8U", "access"), "l16": ("I32Load16U", "access"),
-    "s": ("I32Store", "access"), "S": ("I64Store", "access"),
+    "s": ("I32Store", "access"), "S": ("I64Store", "access"), "row": ("Block", "row"),
 }
+ROW = "Block", "Loop"
 NAMED = "get set tee c l l16 s S add eqz eq ne lt_s lt_u gt_s gt_u ge_s ge_u le_s le_u".split()     # those that may stand first
 PATTERNS = {"local": "$local:pat", "number": "$number:pat", "access": "$align:pat, $offset:pat", "none": "$word:pat"}
 LONGEST = 38        # lines of a body, but for its brackets
@@ -112,7 +113,9 @@ class Places:
         return "".join(re.sub(rf"flat\.{kind.op}\b", f"flat.{it.name}", lines[kind.op]) + "\n" for kind, its in self.first.items() for it in its)
 
     def op_kind(self) -> str:
-        return "".join(self.flat("op_kind", self.names(kind), kind.payload, f"kind.{kind.name}") for kind in self.kinds) + "op_kind _ = kind.Other\n"
+        rows = "".join(f"op_kind (flat.{name} _ _ _) = kind.Row\n" for kind in self.kinds if kind.word == "row" for name in ROW)
+        return rows + "".join(self.flat("op_kind", self.names(kind), kind.payload, f"kind.{kind.name}") for kind in self.kinds if kind.word != "row") \
+            + "op_kind _ = kind.Other\n"
 
     def told_next(self) -> str:
         return "".join(self.flat("told_next", [it.name], kind.payload, " ∷ ".join([f"kind.{k.name}" for k in it.behind] + ["[]"]))
@@ -127,7 +130,8 @@ class Places:
 
     def kind_by(self) -> str:
         wild = {"local": "(_)", "number": "(_)", "access": "(_, _)", "branch": "(_, _)", "none": "(_)"}
-        return "".join(f"        {self.pattern(kind, wild[kind.payload])} => OpKind::{kind.name},\n" for kind in self.kinds)
+        rows = " | ".join(f"Op::{name}(_, _, _)" for name in ROW)
+        return "".join(f"        {rows if kind.word == 'row' else self.pattern(kind, wild[kind.payload])} => OpKind::{kind.name},\n" for kind in self.kinds)
 
     def best(self, kind: OpKind, known: tuple[OpKind, ...]) -> str:
         """The longest sequence that is known to stand there, or the plain operation."""
@@ -200,7 +204,7 @@ class Places:
             (f"Compare I32 compare.{kind.name}" if kind.word in COMPARISONS else f"Binary I32 binary.{kind.name}")
 
     def going(self) -> list[OpKind]:
-        return [kind for kind in self.later if kind.word != "if"]
+        return [kind for kind in self.later if kind.word not in ("if", "row")]
 
     def impls(self) -> str:
         """The kinds that are done behind others, each a type."""

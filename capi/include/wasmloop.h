@@ -175,7 +175,7 @@ typedef struct wasmloop_about {
     uint32_t request; /* from 1; 0 for a job without a loop */
     uint32_t slot;    /* below 32 */
     uint32_t op;      /* the argument of uv_work */
-    uint32_t outcome; /* NOT_RUN: it is not over. DONE: uv_work returned; DEPTH: it exceeded the call depth; SPENT: it ran out of fuel; MEMORY: an allocation failed */
+    uint32_t outcome; /* NOT_RUN: it is not over. DONE: uv_work returned; DEPTH: it exceeded the call depth; SPENT: out of fuel; MEMORY: an allocation failed */
     uint32_t value;   /* DONE: the result. TRAP: the trap's number */
     uint64_t bytes;   /* the length of its input, at most 65,536 */
     uint64_t reply;   /* DONE: the length of its reply, at most 65,536 */

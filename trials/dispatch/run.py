@@ -24,7 +24,7 @@ from typing import Dict, Iterator, List, NamedTuple
 
 sys.path.insert(0, str(Path(__file__).resolve().parents[1] / "spec"))
 from noted import compare  # noqa: E402
-from wasm import name as sized, section, vec  # noqa: E402
+from wasm import OPENING, name as sized, section, vec  # noqa: E402
 
 LIST = Path(__file__).with_name("expected.txt")
 EXAMPLES = Path(__file__).resolve().parents[2] / "examples"
@@ -52,7 +52,7 @@ class Count(NamedTuple):
 def module(*bodies: bytes) -> bytes:
     """A module of functions with two locals each, of which the first is `f`, and a memory."""
     whole = [b"\1\2\x7f" + body for body in bodies]
-    return (b"\0asm\1\0\0\0" + section(1, b"\1\x60\0\0") + section(3, sized(bytes(len(bodies)))) + section(5, b"\1\0\1")
+    return (OPENING + section(1, b"\1\x60\0\0") + section(3, sized(bytes(len(bodies)))) + section(5, b"\1\0\1")
             + section(7, b"\1\1f\0\0") + section(10, vec([sized(it) for it in whole])))
 
 
@@ -69,6 +69,7 @@ SCENES = {
     "get load get": module(forever(8 * b"\x20\0\x28\2\0\x20\1\x1a\x1a")),
     "get get gt br_if": module(forever(8 * b"\x02\x40\x20\0\x20\1\x4b\x0d\0\x0b")),
     "get eqz br_if": module(forever(8 * b"\x02\x40\x20\0\x45\x0d\0\x0b")),
+    "const set and 2 blocks": module(forever(8 * b"\x41\1\x21\0\x02\x40\x02\x40\x0b\x0b")),
     "16 blocks in a row": module(forever(16 * b"\x02\x40" + 16 * b"\x0b")),
     "br": module(forever(8 * b"\x02\x40\x0c\0\x0b")),
     "call": module(forever(8 * b"\x10\1"), b"\x0b"),

@@ -9,7 +9,7 @@ from pathlib import Path
 from typing import Callable
 
 sys.path.insert(0, str(Path(__file__).resolve().parents[1] / "spec"))
-from wasm import name as sized, s as signed, section, u as number, vec  # noqa: E402
+from wasm import OPENING, name as sized, s as signed, section, u as number, vec  # noqa: E402
 
 LOCALS, DEEPEST, LONGEST = 7, 4, 400
 # where the locals are stored at a function's end
@@ -142,5 +142,5 @@ def module(seed: int) -> bytes:
     for index in range(count):
         body = Body(seed * 7 + index, [*range(count if it.random() < 0.3 else index)])
         functions.append(sized(b"\1\5" + I32 + body.statements(0, 2, 9) + kept() + body.value() + END))
-    return (b"\0asm\1\0\0\0" + section(1, vec([b"\x60\2" + I32 * 2 + b"\1" + I32])) + section(3, vec([b"\0"] * count)) + section(5, b"\1\1\1\1")
+    return (OPENING + section(1, vec([b"\x60\2" + I32 * 2 + b"\1" + I32])) + section(3, vec([b"\0"] * count)) + section(5, b"\1\1\1\1")
             + section(7, b"\1\1f\0" + number(count - 1)) + section(10, vec(functions)))

@@ -18,13 +18,12 @@ import tempfile
 from typing import Callable, List, Sequence, Tuple, Union
 
 sys.path.insert(0, str(pathlib.Path(__file__).resolve().parents[1] / "spec"))
-from wasm import name as sized, section, u, vec  # noqa: E402
+from wasm import OPENING, name as sized, section, u, vec  # noqa: E402
 
 SIZE = 1024 * 1024
 SECONDS, MEMORY = 1.0, 64 * 1024  # of a check; kibibytes
 STACK = 128  # kibibytes
 Content = Union[str, Callable[[], bytes]]  # a file, or what makes one
-OPENING = b"\0asm\1\0\0\0"
 
 
 def body(code: bytes, locals: bytes = b"\0") -> bytes:

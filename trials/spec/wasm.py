@@ -11,6 +11,8 @@ from __future__ import annotations
 from typing import Any, Callable, Dict, Iterable, Iterator, List, Mapping, Optional, Sequence, Set, Tuple, TypeVar
 
 FLOAT, LATER, LINKED = "floats", "a later version of the standard", "imports of another module"
+# what each module begins with: its magic number and its version
+OPENING = b"\0asm\1\0\0\0"
 I32, I64, F32, F64, V128, FUNCREF, EXTERNREF = 0x7F, 0x7E, 0x7D, 0x7C, 0x7B, 0x70, 0x6F
 # Value types that are not in the profile, and why.
 FOREIGN = {F32: FLOAT, F64: FLOAT, V128: LATER, FUNCREF: LATER, EXTERNREF: LATER}
@@ -380,7 +382,7 @@ class Module:
 
         bodies = [vec([u(n) + bytes([t]) for n, t in locals_]) + body for _, locals_, body in self.functions]
         start = b"" if self.start is None else section(8, u(self.start))
-        return (b"\0asm\1\0\0\0"
+        return (OPENING
                 + listed(1, [b"\x60" + vec([bytes([t]) for t in a]) + vec([bytes([t]) for t in b]) for a, b in self.types])
                 + listed(3, [u(f[0]) for f in self.functions])
                 + listed(4, [bytes([t]) + write_limits(least, most) for t, least, most in self.tables])

@@ -103,14 +103,8 @@ races() {
     if ! command -v valgrind > /dev/null; then left_out "Helgrind: there is no valgrind"; return; fi
     try valgrind -q --tool=helgrind --error-exitcode=66 "$out/plain_SOUND" "$examples/digest.wasm" 10
     try valgrind -q --tool=helgrind --error-exitcode=66 "$out/plain_share_SOUND" "$examples/crc32.wasm" 20
-    # (it sees this one in five of six runs, and in a third of those of 30 rounds)
-    seen=0
-    for turn in 1 2 3 4 5 6 7 8 9 10; do
-        reports valgrind -q --tool=helgrind --error-exitcode=66 "$out/plain_share_WITH_DROP" "$examples/crc32.wasm" 200 || continue
-        seen=$turn
-        break
-    done
-    [ $seen != 0 ] || fail "Helgrind doesn't report WITH_DROP in ten runs"
+    reports valgrind -q --tool=helgrind --error-exitcode=66 "$out/plain_share_WITH_DROP" "$examples/crc32.wasm" 30 \
+        || fail "Helgrind doesn't report WITH_DROP"
     reports valgrind -q --tool=helgrind --error-exitcode=66 "$out/plain_WITHOUT_WAIT" "$examples/digest.wasm" 30 \
         || fail "Helgrind doesn't report WITHOUT_WAIT"
 }

@@ -77,6 +77,7 @@ static void *uses(void *drops) {
             volatile uint64_t *mark = &shared.mark;
             *mark = *mark;
             wasmloop_drop(&shared);
+            return NULL; /* (if it went on, it would end the process, perhaps before another thread has read) */
         }
 #endif
     }

@@ -25,17 +25,19 @@ PLAIN = {
 ROW = "Block", "Loop"
 NAMED = "get set tee c l l16 s S add eqz eq ne lt_s lt_u gt_s gt_u ge_s ge_u le_s le_u".split()     # those that may stand first
 PATTERNS = {"local": "$local:pat", "number": "$number:pat", "access": "$align:pat, $offset:pat", "none": "$word:pat"}
-LONGEST = 38        # lines of a body, but for its brackets
 SHORT = {"c": "Const", "l": "Load", "l8": "Load8", "l16": "Load16", "s": "Store", "S": "StoreWide"}
 BINDS = {"local": "(local)", "number": "(number)", "access": "(align, offset)", "none": "(word)"}
 FIELDS = {"local": "(u32)", "number": "(u32)", "access": "(u8, u32)", "none": "(u32)"}
-ARGS = {"local": ", local: u32", "number": ", number: u32", "access": ", align: u8, offset: u32", "none": ", word: u32"}
 BYTES = {"l": "bytes_of_type I32", "l8": "bytes_of_width One", "l16": "bytes_of_width Two"}
 ANTT = {"local": " local", "number": " number", "access": " align offset", "branch": " _ _", "none": " word"}
 
 
 def wrapped(text: str, indent: int) -> str:
     return fill(text, 150, initial_indent=" " * indent, subsequent_indent=" " * indent) + "\n"
+
+
+def seen_name(kinds: tuple[OpKind, ...]) -> str:
+    return "".join(kind.name for kind in kinds) or "Nothing"
 
 
 def camel(word: str) -> str:
@@ -133,56 +135,75 @@ class Places:
         rows = " | ".join(f"Op::{name}(_, _, _)" for name in ROW)
         return "".join(f"        {rows if kind.word == 'row' else self.pattern(kind, wild[kind.payload])} => OpKind::{kind.name},\n" for kind in self.kinds)
 
-    def best(self, kind: OpKind, known: tuple[OpKind, ...]) -> str:
-        """The longest sequence that is known to stand there, or the plain operation."""
-        fit = [it for it in self.first[kind] if known[:len(it.behind)] == it.behind]
-        return f"Op::{max(fit, key=lambda it: len(it.behind)).name if fit else kind.op}{BINDS[kind.payload]}"
+    def seen(self) -> list[tuple[OpKind, ...]]:
+        """What may be seen of the operations from one on: each kind, each sequence, and what stands behind a part of one. Loads and stores that have notes
+        stand together, so that one comparison tells them."""
+        all_seen = dict.fromkeys([(kind,) for kind in self.kinds] + [it.kinds[at:] for it in self.all for at in range(len(it.kinds))])
 
-    def nested(self, kind: OpKind, known: tuple[OpKind, ...], apart: tuple[OpKind, ...]) -> Iterator[str]:
-        """A `match` of what stands behind these, one in another. The arms of some kinds are functions of their own."""
-        longer = [it for it in self.first[kind] if len(it.behind) > len(known) and it.behind[:len(known)] == known]
-        further = list(dict.fromkeys(it.behind[len(known)] for it in longer))
-        if not further:
-            yield self.best(kind, known)
-            return
-        yield f"match next.{len(known)} {{"
-        for it in further:
-            arm = [f"{self.noting(kind, known + (it,))}(next{self.given(kind)})"] if it in apart else list(self.nested(kind, known + (it,), ()))
-            yield f"    OpKind::{it.name} => {arm[0]}" + ("," if len(arm) == 1 else "")
-            yield from (f"    {line}" for line in arm[1:-1])
-            if len(arm) > 1:
-                yield f"    {arm[-1]},"
-        yield f"    _ => {self.best(kind, known)},"
-        yield "}"
+        def group(kinds: tuple[OpKind, ...]) -> int:
+            first_kind = kinds[0]
+            return 0 if first_kind.word == "row" else 3 if first_kind not in self.first else 1 if first_kind.payload == "access" else 2
+        return sorted([*all_seen, ()], key=lambda kinds: (group(kinds) if kinds else 3, len(kinds)))
 
-    def noted_by(self, kind: OpKind, known: tuple[OpKind, ...]) -> Iterator[str]:
-        """The function that notes what stands behind it, where these are known to. Of a long one the longest arms are functions of their own."""
-        lines, apart = list(self.nested(kind, known, ())), []
-        while len(lines) > LONGEST:
-            arms = {it: list(self.nested(kind, known + (it,), ())) for it in self.kinds if it not in apart}
-            apart.append(max(arms, key=lambda it: len(arms[it])))
-            lines = list(self.nested(kind, known, tuple(apart)))
-        behind = " ∷ ".join([f"kind.{it.name}" for it in known] + [f"next.{at}" for at in range(len(known), 3)] + ["[]"])
-        told = ", then ".join(f"`{it.op}`" for it in known)
-        yield (f"/// `{kind.op}` with a note of what stands behind it{', first ' + told if known else ''}.\n"
-               "#[tactic(auto, unfolding(crate::specs::Notes::plain_of, crate::specs::Notes::told_next))]\n#[inline(always)]\n"
-               f"fn {self.noting(kind, known)}(next: (OpKind, OpKind, OpKind){ARGS[kind.payload]}) -> Op\n"
-               f"    ensures same {{ plain_of result ≡ flat.{kind.op}{ANTT[kind.payload]} }}\n"
-               f"    ensures tells {{ AreFirst (told_next result) ({behind}) }}\n{{\n" + "".join(f"    {line}\n" for line in lines) + "}\n")
-        for it in apart:
-            yield from self.noted_by(kind, known + (it,))
+    def seen_with(self, kind: OpKind | None, behind: tuple[OpKind, ...]) -> tuple[OpKind, ...]:
+        """The most that may be seen from an operation of a kind on."""
+        there = (kind, *behind) if kind else ()
+        return max((it for it in self.seen() if there[:len(it)] == it), key=len)
 
-    def noting(self, kind: OpKind, known: tuple[OpKind, ...]) -> str:
-        return "_".join(["note", kind.name.lower()] + [it.name.lower() for it in known])
+    def op_told(self, kinds: tuple[OpKind, ...]) -> str:
+        """The operation with the note of the longest sequence that is seen."""
+        fit = [it for it in self.first[kinds[0]] if kinds[:len(it.kinds)] == it.kinds]
+        return max(fit, key=lambda it: len(it.kinds)).name if fit else kinds[0].op
 
-    def noted(self) -> str:
-        return "\n".join(text for kind in self.first for text in self.noted_by(kind, ()))
+    def seen_declared(self) -> str:
+        return "".join(f"    {seen_name(it)},\n" for it in self.seen())
 
-    def given(self, kind: OpKind) -> str:
-        return BINDS[kind.payload].replace("(", ", ").replace(")", "")
+    def steps(self) -> str:
+        """For each kind of an operation, and each that is seen behind it, what is seen from it on."""
+        rows = []
+        for kind in [None, *self.kinds]:
+            row = [seen_name(self.seen_with(kind, it)) for it in self.seen()]
+            rows.append(f"    [Seen::{row[0]}; SEEN],\n" if len(set(row)) == 1 else f"    row!(\n{wrapped(' '.join(row), 8)}    ),\n")
+        return "".join(rows)
 
-    def notes(self) -> str:
-        return "".join(f"        {self.pattern(kind, BINDS[kind.payload])} => {self.noting(kind, ())}(next{self.given(kind)}),\n" for kind in self.first)
+    def tells(self) -> str:
+        return wrapped("".join("true, " if kind in self.telling(False) else "false, " for kind in [None, *self.kinds]), 4)
+
+    def noted(self, access: bool) -> str:
+        """What notes an operation: those that are seen as they are called, and others."""
+        them = [it for it in self.seen() if it and it[0] in self.first and (it[0].payload == "access") == access]
+        same = [it for it in them if seen_name(it) == self.op_told(it)]
+        return wrapped(" ".join(map(seen_name, same)), 8)[:-1] + ";\n" + wrapped(", ".join(f"{seen_name(it)} {self.op_told(it)}" for it in them if it not in same), 8)
+
+    def seen_kind(self) -> str:
+        return "".join(f"seen_kind seen.{seen_name(it)} = kind.{it[0].name}\n" for it in self.seen() if it) + "seen_kind seen.Nothing = kind.Other\n"
+
+    def seen_next(self) -> str:
+        return "".join(f"seen_next seen.{seen_name(it)} = {' ∷ '.join([f'kind.{kind.name}' for kind in it[1:]] + ['[]'])}\n"
+                       for it in self.seen() if it) + "seen_next seen.Nothing = []\n"
+
+    def telling(self, access: bool) -> list[OpKind]:
+        """The kinds that have notes: of loads and stores, or of operations of one field."""
+        return [kind for kind in self.first if (kind.payload == "access") == access]
+
+    def seen_from(self) -> str:
+        """The cases of a lemma about each place of the table."""
+        return "".join(f"seen_from row other kind.{kind} {it} = (refl, refl)\n" for kind in ["Other", *[it.name for it in self.kinds]] for it in ("seen.Nothing", "s"))
+
+    def plain_by(self, of: str, access: bool) -> str:
+        """The plain operation of a kind."""
+        args = "align word" if access else "word"
+        return "".join(f"{of} kind.{kind.name} {args} = flat.{kind.op} {args}\n" for kind in self.telling(access))
+
+    def is_telling(self, of: str, access: bool) -> str:
+        return "".join(f"{of} kind.{kind.name} = true\n" for kind in self.telling(access))
+
+    def align_of(self) -> str:
+        return "".join(self.flat("align_of", self.names(kind), "access", "align") for kind in self.telling(True))
+
+    def seen_accesses(self) -> str:
+        """The places of loads and stores that have notes."""
+        return wrapped(" | ".join(f"Seen::{seen_name(it)}" for it in self.seen() if it and it[0] in self.telling(True)), 8)
 
     def does(self, kind: OpKind) -> str:
         """The call that does it."""
@@ -307,7 +328,7 @@ impl Behind for {kind.name} {{
 
     def all_places(self) -> Iterator[tuple[str, str, str, str]]:
         """File, the expression before the text and that behind it, and the text."""
-        notes, notes_rt = f"{SYNTAX}/specs/Notes.antt", f"{SYNTAX}/src/notes.rt"
+        notes, notes_rt, row_notes = f"{SYNTAX}/specs/Notes.antt", f"{SYNTAX}/src/notes.rt", f"{SYNTAX}/specs/Inner/See.antt"
         ops = (TOP / f"{SYNTAX}/specs/Operations.antt").read_text(encoding="utf-8")
         lines = {found[2]: found[1] for found in re.finditer(r"(?m)^(operation_of \(?flat\.(\w+).*)$", ops)}
         yield f"{SYNTAX}/src/op.rt", r"    Long\(u32\),\n", r"}\n\nconst _", self.variants()
@@ -320,8 +341,22 @@ impl Behind for {kind.name} {{
         yield notes_rt, r"fn word\([^{]*\{[^{]*\{\n    match op \{\n", r"    }\n}", self.word()
         yield notes_rt, r"pub enum OpKind \{\n    Other,\n", r"}\n", self.kinds_declared()
         yield notes_rt, r"fn kind_by[^{]*\{[^{]*\{\n    match op \{\n", r"        _ => OpKind", self.kind_by()
-        yield notes_rt, r"fn word\((?:.*\n)*?}\n\n", r"/// An operation with", self.noted() + "\n"
-        yield notes_rt, r"fn note\((?:.*\n)*?    match op \{\n", r"        other => other", self.notes()
+        yield f"{SYNTAX}/proofs/SeenSteps.antt", r"unfolding seen_kind seen_next\n", r"\npub", self.seen_from()
+        yield notes_rt, r"pub enum Seen \{\n", r"}\n", self.seen_declared()
+        yield notes_rt, r"const KINDS: usize = ", r";", str(len(self.kinds) + 1)
+        yield notes_rt, r"const SEEN: usize = ", r";", str(len(self.seen()))
+        yield notes_rt, r"static STEPS: .*\n", r"\];", self.steps()
+        yield notes_rt, r"static TELLS: .*\n", r"\];", self.tells()
+        yield notes_rt, r"fn note_word\((?:.*\n)*?        seen, .*\n", r"    \)", self.noted(False)
+        yield notes_rt, r"fn note_access\((?:.*\n)*?        seen, .*\n", r"    \)", self.noted(True)
+        yield notes_rt, r"fn is_access\((?:.*\n)*?{\n    matches!\(\n        seen,\n", r"    \)", self.seen_accesses()
+        yield row_notes, r"unfoldable pub word_tells : .*\n", r"word_tells _", self.is_telling("word_tells", False)
+        yield row_notes, r"unfoldable pub access_tells : .*\n", r"access_tells _", self.is_telling("access_tells", True)
+        yield row_notes, r"unfoldable pub align_of : .*\n", r"align_of _", self.align_of()
+        yield row_notes, r"unfoldable pub seen_kind : .*\n", r"\n--", self.seen_kind()
+        yield row_notes, r"unfoldable pub seen_next : .*\n", r"\n--", self.seen_next()
+        yield row_notes, r"unfoldable pub plain_by : .*\n", r"plain_by _", self.plain_by("plain_by", False)
+        yield row_notes, r"unfoldable pub plain_at : .*\n", r"plain_at _", self.plain_by("plain_at", True)
         yield from self.engine_places()
         for kind in map(OpKind, NAMED):
             arm = rf"fn instr_of(?:.*\n)*?(?= +(?:Op::|noted!\(){kind.op}\()"

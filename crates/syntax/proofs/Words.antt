@@ -11,7 +11,7 @@ pub use Rattle.std.specs.Prelude.{option_to_list, slice_get, take}
 pub use Rattle.syntax.specs.Branching.{branch_number, branches, branches_in, CarriesNumber, LabelsThere, Numbered}
 pub use Rattle.syntax.specs.Code.{AsBlock, AsLoop, BlockKind, Code, code_of, Done, If, opening_bracket, operations, operations_to, Plain, Structured}
 pub use Rattle.syntax.specs.Inner.Beside.{stand_in, with_branch_number}
-pub use Rattle.syntax.specs.Inner.RowNotes.{AreFirst, telling, untold}
+pub use Rattle.syntax.specs.Inner.See.{AreFirst, telling, untold}
 pub use Rattle.syntax.specs.Inner.Tokens.{open_after, token}
 pub use Rattle.syntax.specs.Instructions.{block_type, expr, immediates, opcode, plain, sequence, spelled_residue, structured_opcode, type_index}
 pub use Rattle.syntax.specs.Language.{byte, exactly, IsPrefixFree, items, Language, Leaves, only_if, u32, vec, ◌∣◌, ◌⨾◌}

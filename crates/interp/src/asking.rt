@@ -96,9 +96,9 @@ fn ask_above<H: Host>(
     ask_host(contents, state, host, &mut slots[1..], at, import, height);
 }
 
-/// Asks the host on the slots of all calls.
-#[inline(always)]
-pub fn ask_on<H: Host>(
+/// Asks the host on the slots of all calls. Each copy of the loop has one of its own, which LLVM then inlines there: with `inline(always)`, what
+/// the loop is inlined into would grow too large for rattle to inline it.
+pub fn ask_on<H: Host, AskedBy>(
     contents: &Contents,
     state: &mut State,
     host: &mut H,

@@ -126,7 +126,7 @@ pub(crate) fn invoke_defined<H: Host>(
         at,
         fuel: call.fuel,
     };
-    let run = run_within(&outermost, slots, frames, state, host, &mut place);
+    let run = run_within::<H, H>(&outermost, slots, frames, state, host, &mut place);
     read_results(
         run.ended.ending,
         outermost.types,
@@ -196,6 +196,7 @@ pub fn invoke_on<H: Host>(
 }
 
 /// Calls a function that has no results, as `invoke_on` does.
+#[inline(always)]
 pub fn invoke_bare<H: Host>(
     valid: &Valid,
     state: &mut State,

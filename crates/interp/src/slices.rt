@@ -24,6 +24,7 @@ use events::ended::{BareEnded, BareEnding, Ended};
 use instance::stack::{Caller, Last, Slots};
 use instance::state::State;
 use limits::{MAX_DEPTH, MAX_RESULTS};
+use std::marker::PhantomData;
 use syntax::types::Value;
 use validate::type_of_function;
 
@@ -39,6 +40,12 @@ pub struct Slice {
 pub(crate) struct Over {
     pub ended: BareEnded,
     pub last: Option<Last>,
+}
+
+/// A host that is asked in slices. A slice is run by a copy of the loop that is not that of a whole call: all that go on with a call share
+/// one, while what calls a function at once has it inlined.
+struct InSlices<H> {
+    host: PhantomData<H>,
 }
 
 /// Begins a call of a defined function on this state, with room for these callers, over this host: nothing runs yet.
@@ -92,7 +99,7 @@ fn most_bytes(copied: u64, units: u64) -> u64
 /// ending is returned, with all fuel that it has used since it began and where it was over, unless it returned, and its results are in the first
 /// of the places that are lent, at least as many as the function has; else some fuel is left, and it stands where a run with just so much fuel as
 /// it has used is over as spent.
-#[inline(always)]
+#[inline(never)]
 pub(crate) fn go_on_lent<H: Host>(
     code: &ModuleCode,
     state: &mut State,
@@ -141,7 +148,7 @@ pub(crate) fn go_on_lent<H: Host>(
         at: paused.at,
         fuel: units.min(paused.left),
     };
-    let run = run_within(&outermost, slots, frames, state, host, &mut place);
+    let run = run_within::<H, InSlices<H>>(&outermost, slots, frames, state, host, &mut place);
     let ended = run.ended;
     if is_paused(ended, paused.left) {
         slice.paused = Paused {

@@ -163,8 +163,8 @@ impl Resident {
     }
 
     /// Does what `call` does, and writes the results to the first of the places that are lent, at least as many as the function has. So no
-    /// room for more results is filled with zeros and copied.
-    #[inline(always)]
+    /// room for more results is filled with zeros and copied. It has a copy of the loop inlined, so all callers share it.
+    #[inline(never)]
     pub fn call_into(
         &mut self,
         function: u32,

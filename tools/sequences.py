@@ -8,6 +8,7 @@ from __future__ import annotations
 
 import re
 import sys
+from functools import cached_property
 from textwrap import fill
 from typing import Iterator, NamedTuple
 
@@ -135,6 +136,7 @@ class Places:
         rows = " | ".join(f"Op::{name}(_, _, _)" for name in ROW)
         return "".join(f"        {rows if kind.word == 'row' else self.pattern(kind, wild[kind.payload])} => OpKind::{kind.name},\n" for kind in self.kinds)
 
+    @cached_property
     def seen(self) -> list[tuple[OpKind, ...]]:
         """What may be seen of the operations from one on: each kind, each sequence, and what stands behind a part of one. Loads and stores that have notes
         stand together, so that one comparison tells them."""
@@ -148,7 +150,7 @@ class Places:
     def seen_with(self, kind: OpKind | None, behind: tuple[OpKind, ...]) -> tuple[OpKind, ...]:
         """The most that may be seen from an operation of a kind on."""
         there = (kind, *behind) if kind else ()
-        return max((it for it in self.seen() if there[:len(it)] == it), key=len)
+        return max((it for it in self.seen if there[:len(it)] == it), key=len)
 
     def op_told(self, kinds: tuple[OpKind, ...]) -> str:
         """The operation with the note of the longest sequence that is seen."""
@@ -156,13 +158,13 @@ class Places:
         return max(fit, key=lambda it: len(it.kinds)).name if fit else kinds[0].op
 
     def seen_declared(self) -> str:
-        return "".join(f"    {seen_name(it)},\n" for it in self.seen())
+        return "".join(f"    {seen_name(it)},\n" for it in self.seen)
 
     def steps(self) -> str:
         """For each kind of an operation, and each that is seen behind it, what is seen from it on."""
         rows = []
         for kind in [None, *self.kinds]:
-            row = [seen_name(self.seen_with(kind, it)) for it in self.seen()]
+            row = [seen_name(self.seen_with(kind, it)) for it in self.seen]
             rows.append(f"    [Seen::{row[0]}; SEEN],\n" if len(set(row)) == 1 else f"    row!(\n{wrapped(' '.join(row), 8)}    ),\n")
         return "".join(rows)
 
@@ -171,16 +173,16 @@ class Places:
 
     def noted(self, access: bool) -> str:
         """What notes an operation: those that are seen as they are called, and others."""
-        them = [it for it in self.seen() if it and it[0] in self.first and (it[0].payload == "access") == access]
+        them = [it for it in self.seen if it and it[0] in self.first and (it[0].payload == "access") == access]
         same = [it for it in them if seen_name(it) == self.op_told(it)]
         return wrapped(" ".join(map(seen_name, same)), 8)[:-1] + ";\n" + wrapped(", ".join(f"{seen_name(it)} {self.op_told(it)}" for it in them if it not in same), 8)
 
     def seen_kind(self) -> str:
-        return "".join(f"seen_kind seen.{seen_name(it)} = kind.{it[0].name}\n" for it in self.seen() if it) + "seen_kind seen.Nothing = kind.Other\n"
+        return "".join(f"seen_kind seen.{seen_name(it)} = kind.{it[0].name}\n" for it in self.seen if it) + "seen_kind seen.Nothing = kind.Other\n"
 
     def seen_next(self) -> str:
         return "".join(f"seen_next seen.{seen_name(it)} = {' ∷ '.join([f'kind.{kind.name}' for kind in it[1:]] + ['[]'])}\n"
-                       for it in self.seen() if it) + "seen_next seen.Nothing = []\n"
+                       for it in self.seen if it) + "seen_next seen.Nothing = []\n"
 
     def telling(self, access: bool) -> list[OpKind]:
         """The kinds that have notes: of loads and stores, or of operations of one field."""
@@ -203,7 +205,7 @@ class Places:
 
     def seen_accesses(self) -> str:
         """The places of loads and stores that have notes."""
-        return wrapped(" | ".join(f"Seen::{seen_name(it)}" for it in self.seen() if it and it[0] in self.telling(True)), 8)
+        return wrapped(" | ".join(f"Seen::{seen_name(it)}" for it in self.seen if it and it[0] in self.telling(True)), 8)
 
     def does(self, kind: OpKind) -> str:
         """The call that does it."""
@@ -328,7 +330,7 @@ impl Behind for {kind.name} {{
 
     def all_places(self) -> Iterator[tuple[str, str, str, str]]:
         """File, the expression before the text and that behind it, and the text."""
-        notes, notes_rt, row_notes = f"{SYNTAX}/specs/Notes.antt", f"{SYNTAX}/src/notes.rt", f"{SYNTAX}/specs/Inner/See.antt"
+        notes, notes_rt, see_antt = f"{SYNTAX}/specs/Notes.antt", f"{SYNTAX}/src/notes.rt", f"{SYNTAX}/specs/Inner/See.antt"
         ops = (TOP / f"{SYNTAX}/specs/Operations.antt").read_text(encoding="utf-8")
         lines = {found[2]: found[1] for found in re.finditer(r"(?m)^(operation_of \(?flat\.(\w+).*)$", ops)}
         yield f"{SYNTAX}/src/op.rt", r"    Long\(u32\),\n", r"}\n\nconst _", self.variants()
@@ -344,19 +346,19 @@ impl Behind for {kind.name} {{
         yield f"{SYNTAX}/proofs/SeenSteps.antt", r"unfolding seen_kind seen_next\n", r"\npub", self.seen_from()
         yield notes_rt, r"pub enum Seen \{\n", r"}\n", self.seen_declared()
         yield notes_rt, r"const KINDS: usize = ", r";", str(len(self.kinds) + 1)
-        yield notes_rt, r"const SEEN: usize = ", r";", str(len(self.seen()))
+        yield notes_rt, r"const SEEN: usize = ", r";", str(len(self.seen))
         yield notes_rt, r"static STEPS: .*\n", r"\];", self.steps()
         yield notes_rt, r"static TELLS: .*\n", r"\];", self.tells()
         yield notes_rt, r"fn note_word\((?:.*\n)*?        seen, .*\n", r"    \)", self.noted(False)
         yield notes_rt, r"fn note_access\((?:.*\n)*?        seen, .*\n", r"    \)", self.noted(True)
         yield notes_rt, r"fn is_access\((?:.*\n)*?{\n    matches!\(\n        seen,\n", r"    \)", self.seen_accesses()
-        yield row_notes, r"unfoldable pub word_tells : .*\n", r"word_tells _", self.is_telling("word_tells", False)
-        yield row_notes, r"unfoldable pub access_tells : .*\n", r"access_tells _", self.is_telling("access_tells", True)
-        yield row_notes, r"unfoldable pub align_of : .*\n", r"align_of _", self.align_of()
-        yield row_notes, r"unfoldable pub seen_kind : .*\n", r"\n--", self.seen_kind()
-        yield row_notes, r"unfoldable pub seen_next : .*\n", r"\n--", self.seen_next()
-        yield row_notes, r"unfoldable pub plain_by : .*\n", r"plain_by _", self.plain_by("plain_by", False)
-        yield row_notes, r"unfoldable pub plain_at : .*\n", r"plain_at _", self.plain_by("plain_at", True)
+        yield see_antt, r"unfoldable pub word_tells : .*\n", r"word_tells _", self.is_telling("word_tells", False)
+        yield see_antt, r"unfoldable pub access_tells : .*\n", r"access_tells _", self.is_telling("access_tells", True)
+        yield see_antt, r"unfoldable pub align_of : .*\n", r"align_of _", self.align_of()
+        yield see_antt, r"unfoldable pub seen_kind : .*\n", r"\n--", self.seen_kind()
+        yield see_antt, r"unfoldable pub seen_next : .*\n", r"\n--", self.seen_next()
+        yield see_antt, r"unfoldable pub plain_by : .*\n", r"plain_by _", self.plain_by("plain_by", False)
+        yield see_antt, r"unfoldable pub plain_at : .*\n", r"plain_at _", self.plain_by("plain_at", True)
         yield from self.engine_places()
         for kind in map(OpKind, NAMED):
             arm = rf"fn instr_of(?:.*\n)*?(?= +(?:Op::|noted!\(){kind.op}\()"

@@ -14,7 +14,7 @@ from pathlib import Path
 from typing import Iterable, Iterator, List, Tuple
 
 sys.path.insert(0, str(Path(__file__).resolve().parents[2] / "trials" / "spec"))
-from wasm import Reader, name, u, vec  # noqa: E402
+from wasm import OPENING, Reader, name, u, vec  # noqa: E402
 
 MOST_FUNCTIONS = 4096
 FUNCTIONS, CODE = 3, 10
@@ -28,7 +28,7 @@ def sections(data: bytes) -> Iterator[Tuple[int, bytes]]:
 
 
 def module(parts: Iterable[Tuple[int, bytes]]) -> bytes:
-    return b"\0asm\1\0\0\0" + b"".join(bytes([number]) + name(contents) for number, contents in parts)
+    return OPENING + b"".join(bytes([number]) + name(contents) for number, contents in parts)
 
 
 def main(words: List[str]) -> None:

@@ -19,7 +19,7 @@ import tempfile
 from pathlib import Path
 
 sys.path.insert(0, str(Path(__file__).resolve().parents[2] / "trials" / "spec"))
-from wasm import name as sized, s as signed, u as number, vec as vector  # noqa: E402
+from wasm import OPENING, name as sized, s as signed, u as number, vec as vector  # noqa: E402
 
 I32, I64 = 0x7F, 0x7E
 DROP, LOOP, BR0, END = b"\x1a", b"\x03\x40", b"\x0c\x00", b"\x0b"
@@ -71,7 +71,7 @@ class Module:
             7: vector(self.exports), 9: b"\x01\x00\x41\x00\x0b" + vector([number(self.callback)]),
             10: vector([code for _, code in self.functions]),
         }
-        return b"\0asm\1\0\0\0" + b"".join(bytes([i]) + sized(s) for i, s in sections.items())
+        return OPENING + b"".join(bytes([i]) + sized(s) for i, s in sections.items())
 
 
 def call(name: str) -> bytes:

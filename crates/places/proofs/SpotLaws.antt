@@ -1,10 +1,10 @@
 -- An operation of a decoded body is one instruction of its bytes.
-use Rattle.places.proofs.Words.{apart, arith, drop, drop_all, integer, IsTheOne, items, items_none, Leaves, LeavesNone, length, length-drop, List, no_items, NoneBegins}
+use Rattle.places.proofs.Words.{apart, arith, drop, integer, IsTheOne, items, items_none, Leaves, LeavesNone, length, length-drop, List, no_items, NoneBegins}
 use Rattle.places.proofs.Words.{operation, refl, repeated, sym, u32, zero, suc, ℕ, [], ◌++◌, ◌+◌, ◌∷◌, ◌≡◌, ◌≤◌, ◌⨾◌}
-use Rattle.std.proofs.Common.{◌*◌, ◌<◌, ◌⊎◌, inl, inr, Bool, true, false, Option, Some, None, IfNone, ap, ◌∙◌, append-nil, subst, slice_get, get_or}
+use Rattle.std.proofs.Common.{◌*◌, ◌<◌, ◌⊎◌, inl, inr, Bool, false, Some, None, ap, ◌∙◌, append-nil, subst, slice_get, get_or}
 use Rattle.std.proofs.lemmas.List.{length-append, get_or-set_other, get_or-set_same}
 use Rattle.std.proofs.lemmas.Option.{slice_get_within}
-use Rattle.std.specs.Prelude.{slice_set, slice_index_or, slice_range, MatchBool}
+use Rattle.std.specs.Prelude.{slice_set, slice_index_or, slice_range}
 use Rattle.limits.specs.declared.TheConstants.{MAX_NESTING}
 use Rattle.places.specs.declared.operations.Spot.{Spot}
 use Rattle.places.specs.OperationNames.{name_of_opcode}

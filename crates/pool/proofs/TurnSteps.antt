@@ -1,11 +1,11 @@
 -- Turns, one more after others.
-use Rattle.std.proofs.Common.{◌≡◌, ◌≢◌, ◌⊎◌, inl, inr, ⊎_elim, ℕ, Bool, true, false, ◌==◌, cond, List, [], ◌∷◌, ◌++◌, map, Some, None, set, slice_get, refl, sym, ap, ◌∙◌, subst, append_assoc, append-nil, arith}
+use Rattle.std.proofs.Common.{◌≡◌, ◌≢◌, ◌⊎◌, ⊎_elim, ℕ, Bool, true, false, ◌==◌, cond, List, [], ◌∷◌, ◌++◌, map, Some, set, slice_get, refl, sym, ap, ◌∙◌, subst, append_assoc, append-nil, arith}
 use Rattle.std.proofs.lemmas.List.{map-append}
 use Rattle.std.proofs.lemmas.Option.{same_Some}
 use Rattle.std.proofs.lemmas.Bool.{cases_eq}
 use Rattle.std.proofs.lemmas.Bool.Decides.{nat_tests}
 use Rattle.claims.specs.declared.seats.Ticket.{Ticket}
-use Rattle.claims.specs.Views.{WorkerView, StartsTicket}
+use Rattle.claims.specs.Views.{WorkerView}
 use Rattle.order.specs.declared.reply.Reply.{Reply}
 use Rattle.board.specs.declared.line.Named.{Named}
 use Rattle.board.specs.Jobs.{ticket_of}
@@ -14,7 +14,7 @@ use Rattle.board.specs.Boards.{BoardView, PassView, Puts}
 use Rattle.board.proofs.Taking.{set_there, set_beside}
 use Rattle.pool.specs.declared.work.WorkerDid.{WorkerDid}
 use Rattle.pool.specs.declared.work.WorkerDid.TheVariants as did
-use Rattle.pool.specs.Work.{TakesJobOf, DidSo}
+use Rattle.pool.specs.Work.{DidSo}
 use Rattle.pool.specs.Turns.{Turn, Dropped, Put, GivenUp, ticket_in, started_by, put_for, PutsOrNot, TookTurns, TookSome}
 
 started_more : (turns more : List Turn) → started_by (turns ++ more) ≡ started_by turns ++ started_by more

@@ -3,7 +3,7 @@ use Rattle.reduction.proofs.Words.{arith, Arrives, as_operands, asks, Calls, cal
 use Rattle.reduction.proofs.Words.{List, Move, next, take, Value, with_locals, ℕ, ◌<◌, ◌∷◌, ◌≤◌}
 use Rattle.reduction.proofs.Contexts.{frames-going, frames-locals, frames-receiving, frames-continuing, frames-reached, frames-in_call}
 use Rattle.instance.specs.Store.{Store as Memory_and_globals}
-use Rattle.reduction.proofs.Rules.{Reaches, InCall, StepRule, next_rule}
+use Rattle.reduction.proofs.Rules.{StepRule, next_rule}
 use Rattle.reduction.proofs.Rules as rule
 
 -- a step leads to so many calls at most

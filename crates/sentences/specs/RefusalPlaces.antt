@@ -15,7 +15,7 @@ use Rattle.imports.specs.declared.site.UnlinkedPart.{UnlinkedPart as Misfit}
 use Rattle.imports.specs.declared.site.UnlinkedPart.TheVariants as misfit
 use Rattle.places.specs.declared.place.Place.{Place}
 use Rattle.places.specs.declared.place.Place.TheVariants as place
-use Rattle.places.specs.Places.{IsPlaceOfSection, IsPlaceOfFunction, IsPlaceOfOperation, IsPlaceOfImport, IsPlaceOfExport, IsPartWith}
+use Rattle.places.specs.Places.{IsPlaceOfSection, IsPlaceOfFunction, IsPlaceOfOperation, IsPlaceOfImport, IsPlaceOfExport}
 use Rattle.sentences.specs.Defects.{IsDefectOf}
 use Rattle.sentences.specs.declared.defect.Defect.{Defect}
 use Rattle.sentences.specs.declared.refusal.RefusalAccount.{RefusalAccount}

@@ -1,4 +1,3 @@
-use Rattle.std.proofs.Common.{[]}
 use Rattle.std.proofs.lemmas.List.{take_rest}
 use Rattle.places.proofs.WalkLaws.{if_none}
 use Rattle.places.proofs.NameLaws.{no_parts}

@@ -1,4 +1,3 @@
-use Rattle.places.proofs.Words.{length, ◌≡◌}
 use Rattle.places.proofs.SpotLaws.{Walked}
 use Rattle.places.proofs.operations.spot_of.Given as goal
 

@@ -1,4 +1,4 @@
-use Rattle.interp.proofs.Words.{ap, arith, Caller, length, List, MAX_DEPTH, refl, subst, sym, ◌∙◌, ◌≡◌, ◌≤◌}
+use Rattle.interp.proofs.Words.{ap, arith, Caller, length, List, MAX_DEPTH, refl, subst, sym, ◌∙◌, ◌≤◌}
 use Rattle.interp.proofs.OnMachines.{paused_in, take_seam}
 use Rattle.interp.proofs.machine.Machine.go_on_lent.Goals as goal
 

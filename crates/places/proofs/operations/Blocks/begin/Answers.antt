@@ -1,6 +1,5 @@
-use Rattle.std.proofs.Common.{arith, rules, length, subst, ◌<◌, ◌+◌, ap, ◌∙◌, sym, ◌≤◌, ◌∷◌, List, Bool}
+use Rattle.std.proofs.Common.{arith, rules, ◌+◌, ap, ◌∙◌, ◌∷◌, List, Bool}
 use Rattle.places.proofs.SpotLaws.{latest_long, latest_set}
-use Rattle.places.specs.Spots.{latest}
 use Rattle.std.specs.Prelude.{slice_set}
 use Rattle.places.proofs.operations.Blocks.begin.Goals as goal
 

@@ -2,7 +2,7 @@
 says how far it is and how many minutes are left.
 
 usage: build.py PROGRAM..
-       build.py PROGRAM --over-gate | --over FOLDER [--anew]
+       build.py PROGRAM --over-gate | --over FOLDER [--anew] [--jobs N]
 
 `rt ci` proves the library for C as any other, since a static library's check reads the code of all below it, which would cost each of its
 edits 25 seconds; here it is proved once more, as what it is, and compiled.
@@ -10,7 +10,8 @@ edits 25 seconds; here it is proved once more, as what it is, and compiled.
 With --over-gate the libraries are those that `rt ci` has just proved, in out/rlib, with --over those of FOLDER, NAME.rlib each, and the
 program alone is proved and built. What a static library came to is then kept on this machine, in ~/.cache/wasmloop, by the sums of all that it
 rests on: kit, crate, libraries and this file, as `rt ci` keeps proofs; the next call takes it from there. --anew proves it once more, and so
-does every call without --over.
+does every call without --over. --jobs says how many jobs the check has at most: each reads all libraries, so one takes the least of the
+processors' time.
 
 `rt run` alone does the same, one library at a time: rt locks all libraries below the one that it works on. Here the locks
 are taken once for all, as `rt all` takes them, and two or more libraries are built at a time, each once those below it
@@ -59,7 +60,7 @@ TAKES = {
     "leb": 32, "embed": 32, "numeric": 34, "loader": 38, "claims": 40, "pool": 40, "working": 52, "handles": 55, "imports": 58, "scripting": 59,
     "example_plugin": 63, "example_clock": 70, "places": 78, "running": 80, "world": 87, "resident": 89, "instance": 90, "commands": 90,
     "example_host": 93, "flaws": 98, "board": 103, "order": 118, "interp": 130, "script": 134, "words": 136, "wasmloop": 166, "syntax": 190,
-    "decode": 202, "sentences": 240, "validate": 252, "phases": 260, "serve": 282, "wasmloop_c": 380, "engine": 470,
+    "decode": 202, "sentences": 240, "validate": 252, "phases": 260, "serve": 282, "wasmloop_c": 380, "engine": 674,
 }
 GUESSED = 100
 # How many seconds the pace that is seen needs before it counts as much as the one that was measured.
@@ -396,7 +397,7 @@ def without_rt(names: Sequence[str]) -> int:
     return 0
 
 
-def over_those_there(rtlib: Kit, programs: Sequence[RtCrate], folder: Optional[str], is_anew: bool) -> int:
+def over_those_there(rtlib: Kit, programs: Sequence[RtCrate], folder: Optional[str], is_anew: bool, most_jobs: int) -> int:
     """Proves and builds the programs over libraries that are there, in a folder or where `rt ci` leaves them."""
     # (dist/prove.sh has this file alone, and takes nothing from earlier runs)
     sys.path.insert(0, f"{TOP}/tools")
@@ -411,7 +412,7 @@ def over_those_there(rtlib: Kit, programs: Sequence[RtCrate], folder: Optional[s
             say(f"{text_of(files['log'])}\n{program.name} is kept: an earlier run on this machine proved the same files over the same libraries")
             continue
         with open(files["log"], "w", encoding="utf-8") as program.out:
-            status = link(rtlib, program, plan.fitting(program, plan.jobs, free_memory(rtlib)))
+            status = link(rtlib, program, plan.fitting(program, min(plan.jobs, most_jobs), free_memory(rtlib)))
         say(text_of(files["log"]))
         if status:
             return status
@@ -428,6 +429,7 @@ def arguments() -> argparse.Namespace:
     over.add_argument("--over-gate", action="store_true", help="over the libraries that `rt ci` has just proved, in out/rlib")
     over.add_argument("--over", metavar="FOLDER", help="over those of this folder, NAME.rlib each")
     parser.add_argument("--anew", action="store_true", help="with --over: take nothing from earlier runs")
+    parser.add_argument("--jobs", metavar="N", type=int, default=MOST_JOBS, help="with --over: how many jobs a check has at most")
     given = parser.parse_args()
     for it in given.programs:
         if not os.path.isdir(f"{TOP}/crates/{it}/src"):
@@ -447,7 +449,7 @@ def main(given: argparse.Namespace) -> int:
     for it in programs:
         it.is_static = it.is_static or it.name in FOR_C
     if given.over_gate or given.over:
-        return over_those_there(rtlib, programs, given.over and os.path.abspath(given.over), given.anew)
+        return over_those_there(rtlib, programs, given.over and os.path.abspath(given.over), given.anew, given.jobs)
     plan = Plan(programs, *shares())
     held = rtlib.lock(plan.crates)
     over_statements(plan.crates)

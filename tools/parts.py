@@ -36,7 +36,7 @@ PROOFS = {
 }
 FOR_C = "wasmloop_c"
 LIBRARY = {
-    "library proved": ["python3", "build.py", FOR_C, "--over", "{proved}"],
+    "library proved": ["python3", "build.py", FOR_C, "--over", "{proved}", "--jobs", "1"],
     "library linked": ["dist/link.sh", "{room}/linked"],
     "library built": ["dist/same.sh", "library", "{room}/linked"],
 }

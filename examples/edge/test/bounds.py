@@ -103,6 +103,8 @@ def unread() -> None:
     with open(reads) as log, concurrent.futures.ThreadPoolExecutor(1) as pool:
         text = pool.submit(log.read)
         until("lines that are lost no more", lambda: s.number("log_lines_lost_total") == s.number("log_lines_lost_total"))
+        # (as it ends, the server writes what the pipe has room for)
+        until("a log that is read", lambda: not readable(reads))
         s.end()
         check_log(text.result())
 

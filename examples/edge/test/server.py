@@ -175,7 +175,7 @@ def head(answer: bytes) -> int | bytes:
     return int(answer[9:12]) if answer.startswith(b"HTTP/1.1 ") else answer[:40]
 
 
-def readable(link: socket.socket) -> bool:
+def readable(link: socket.socket | int) -> bool:
     return bool(select.select([link], [], [], 0)[0])
 
 

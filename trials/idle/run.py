@@ -4,9 +4,10 @@
     trials/idle/run.py PROGRAM
 
 A guest asks for one piece of work, a loop that counts down; all loops together spend 300,000,000 units of fuel so. As many threads of
-`serve` as there are pieces and workers for them have something to do. The status is 1 if the others take more than a twentieth of the
-processor time of all: a single one that spins takes a tenth or more, those that wait half a hundredth. All times are of one run, so that
-a machine that is busy or slow changes nothing.
+`serve` as there are pieces and workers for them have something to do. The status is 1 if the others take more than a fiftieth of the
+processor time that all take while the second quarter of the work is done: a single one that spins takes a twenty-fifth to a half, those
+that wait nothing. Start and end are left out: each thread runs for a moment then, and if the host of a virtual machine takes the processor
+away meanwhile, Linux counts that as the thread's time, 60 ms once.
 """
 
 from __future__ import annotations
@@ -21,7 +22,7 @@ from typing import Dict, IO, List, Sequence
 # turns of all loops together, each of 6 units
 TURNS = 50_000_000
 
-MOST = 0.05
+MOST = 0.02
 
 # uv_work counts its operation down, and uv_after_work emits its kind.
 WORK = bytes.fromhex("000340200041016b22000d000b41000b")
@@ -58,13 +59,15 @@ def times_of(process: int) -> Dict[str, float]:
 
 
 def spent(words: Sequence[str], out: IO[str]) -> List[float]:
-    """The processor time of each thread of a command, as last seen, from the longest on."""
-    times: Dict[str, float] = {}
+    """The processor time that each thread of a command takes in the second quarter of that of all, from the longest on."""
+    seen: List[Dict[str, float]] = [{}]
     with subprocess.Popen(words, stdout=out) as ran:
         while ran.poll() is None:
-            times.update(times_of(ran.pid))
+            seen.append({**seen[-1], **times_of(ran.pid)})
             time.sleep(0.002)
-    return sorted(times.values(), reverse=True)
+    whole = sum(seen[-1].values())
+    first, last = (next(times for times in seen if sum(times.values()) >= whole * part) for part in (1 / 4, 1 / 2))
+    return sorted((time - first.get(thread, 0) for thread, time in last.items()), reverse=True)
 
 
 def main(words: List[str]) -> int:

@@ -52,26 +52,28 @@ SHIPPED = {
     "outputs": ["tests/outputs.sh", PROGRAM],
     "dispatch": ["trials/dispatch/run.py", PROGRAM],
     "jumps": ["trials/dispatch/jumps.py", PROGRAM, ARCHIVE],
-    "capi": ["capi/test/run.sh", PROGRAM, "{room}/capi"],
     "desk": ["tests/desk.sh", PROGRAM, "{room}/desk"],
+    "plugins": ["examples/plugins/run.sh", ARCHIVE],
+    "guest kit": ["examples/kit/test/run.sh", PROGRAM],
+    "official suite": ["trials/spec/run.sh", PROGRAM, "{room}/spec"],
+}
+INSTALLED = {
+    "capi": ["capi/test/run.sh", PROGRAM, "{room}/capi"],
     "ask": ["tests/ask.sh", "{room}/ask"],
     "packs": ["dist/pack.sh", "{room}/packs"],
     "packs again": ["dist/pack.sh", "{room}/again"],
     "packs alike": ["cmp", "{room}/packs/SHA256SUMS", "{room}/again/SHA256SUMS"],
     "packs installed": ["dist/pack_test.sh", "{room}/packs"],
-    "plugins": ["examples/plugins/run.sh", ARCHIVE],
     "hosts": ["hosts/test.sh"],
-    "guest kit": ["examples/kit/test/run.sh", PROGRAM],
-    "official suite": ["trials/spec/run.sh", PROGRAM, "{room}/spec"],
 }
-LANES = {"FIRST": FIRST, "PROOFS": PROOFS, "LIBRARY": LIBRARY, "WRONG": WRONG, "SHIPPED": SHIPPED}
+LANES = {"FIRST": FIRST, "PROOFS": PROOFS, "LIBRARY": LIBRARY, "WRONG": WRONG, "SHIPPED": SHIPPED, "INSTALLED": INSTALLED}
 # what a part needs to have passed
 NEEDS = {
     "program built": [RT], "manual": [RT], "PROOF.json": [RT, BODIES, "library proved"], "library linked": ["library proved"],
     "library built": ["library linked"], "packs again": ["packs"], "packs alike": ["packs again"], "packs installed": ["packs"],
 }
 # How nice the lanes are: what is shipped is tested in time, and all other proofs wait for one after the other.
-NICE = {"FIRST": 0, "PROOFS": 5, "LIBRARY": 10, "WRONG": 10, "SHIPPED": 0}
+NICE = {"FIRST": 0, "PROOFS": 5, "LIBRARY": 10, "WRONG": 10, "SHIPPED": 0, "INSTALLED": 0}
 # What takes --anew.
 ANEW = (RT, BODIES, "library proved")
 NOT_RUN = -1000

@@ -1,0 +1,61 @@
+#!/usr/bin/env python3
+"""Keeps the LLVM IR of a program, or of the library for C, as rattle hands it to clang, and the words of that call. What a build from LLVM IR of another
+kind shows, such as that of `rt try`, isn't what the build has: the compiler folds other numbers there.
+
+    trials/steps/catch.py wasmloop_c OUT      OUT/module.bc and OUT/words
+
+It takes a minute where build.py has built the libraries below, and what it proved of the crate is kept. Then, with the words of OUT/words in place of WORDS:
+
+    clang WORDS -S -emit-llvm module.bc -o module.ll
+    clang WORDS -Xclang -disable-llvm-passes -c module.ll -mllvm -print-before=early-tailduplication -mllvm -filter-print-funcs=order::order::Order::call
+"""
+
+from __future__ import annotations
+
+import os
+import sys
+
+TOP = os.path.dirname(os.path.dirname(os.path.dirname(os.path.realpath(__file__))))
+sys.dont_write_bytecode = True
+sys.path.insert(0, TOP)
+import build  # noqa: E402
+
+CLANG = """#!/bin/sh
+# keeps the file of IR that clang is given, and the words of the call
+for it in "$@"; do case "$it" in *.bc) cp "$it" "{out}/module.bc"; echo "$@" > "{out}/words" ;; esac; done
+exec {clang} "$@"
+"""
+
+
+def toolchain(kit: str, out: str) -> str:
+    """A folder that is the kit's toolchain, but for clang."""
+    made = f"{out}/toolchain"
+    os.makedirs(f"{made}/bin")
+    os.symlink(f"{kit}/toolchain/lib", f"{made}/lib")
+    for name in os.listdir(f"{kit}/toolchain/bin"):
+        if name != "clang":
+            os.symlink(f"{kit}/toolchain/bin/{name}", f"{made}/bin/{name}")
+    with open(f"{made}/bin/clang", "w", encoding="utf-8") as file:
+        file.write(CLANG.format(out=out, clang=f"{kit}/toolchain/bin/clang"))
+    os.chmod(f"{made}/bin/clang", 0o755)
+    return made
+
+
+def main(name: str, out: str) -> int:
+    rtlib = build.kit()
+    if not rtlib:
+        sys.exit("this needs a kit whose rt build.py knows")
+    (crate,) = build.crates_of(rtlib, [name])
+    crate.is_static = crate.is_static or name in build.FOR_C
+    build.over_statements(crate.below())
+    call, made = crate.call, toolchain(rtlib.KIT, os.path.abspath(out))
+    # (rattle is told its toolchain by a word of the call)
+    crate.call = lambda *words: call(*[made if it == f"{rtlib.KIT}/toolchain" else it for it in words])  # type: ignore[method-assign]
+    crate.out = sys.stdout
+    return crate.compile(["--jobs", "1", *["--cpu", "x86-64"] * crate.is_static], f"out/{name}.caught")
+
+
+if __name__ == "__main__":
+    if len(sys.argv) != 3:
+        sys.exit(__doc__)
+    sys.exit(main(*sys.argv[1:]))

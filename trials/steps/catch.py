@@ -48,9 +48,9 @@ def main(name: str, out: str) -> int:
     (crate,) = build.crates_of(rtlib, [name])
     crate.is_static = crate.is_static or name in build.FOR_C
     build.over_statements(crate.below())
-    call, made = crate.call, toolchain(rtlib.KIT, os.path.abspath(out))
+    call, found, made = crate.call, f"{rtlib.KIT}/toolchain", toolchain(rtlib.KIT, os.path.abspath(out))
     # (rattle is told its toolchain by a word of the call)
-    crate.call = lambda *words: call(*[made if it == f"{rtlib.KIT}/toolchain" else it for it in words])  # type: ignore[method-assign]
+    crate.call = lambda *words: call(*[made if it == found else it for it in words])  # type: ignore[assignment]
     crate.out = sys.stdout
     return crate.compile(["--jobs", "1", *["--cpu", "x86-64"] * crate.is_static], f"out/{name}.caught")
 

@@ -3,7 +3,7 @@ pub use Rattle.engine.specs.Jumping.{jump, landing, popped, returning_to, target
 pub use Rattle.engine.specs.Programs.{Function, Program, program_of}
 pub use Rattle.engine.specs.Reaching.{Allows, beside, reach, Reached}
 pub use Rattle.engine.specs.Reading.{IsSmall, Reads}
-pub use Rattle.engine.specs.Slots.{IsOn, number, on, second, top}
+pub use Rattle.engine.specs.Slots.{IsOn, number, on_by, second, top}
 pub use Rattle.engine.specs.Stepping.{between_calls, cost, EndsWith, follow, in_call, led, MachineState, standing, StandsReady, Step, Stops}
 pub use Rattle.engine.specs.declared.at.At.{At}
 pub use Rattle.engine.specs.declared.at.Flow.{Flow}

@@ -1,8 +1,9 @@
 #!/usr/bin/env python3
-"""Keeps the LLVM IR of a program, or of the library for C, as rattle hands it to clang, and the words of that call. What a build from LLVM IR of another
-kind shows, such as that of `rt try`, isn't what the build has: the compiler folds other numbers there.
+"""Keeps the LLVM IR of a program, or of the library for C, as rattle hands it to clang, and the words of that call. A trial build from the IR of
+`rt try` doesn't tell which jumps the build has: LLVM moves other numbers between blocks there. One trial had 122 jumps in each loop, and the
+library that rattle built of the same sources 9. So a change of the loop's ways is tried in this IR, by hand, before its proof.
 
-    trials/steps/catch.py wasmloop_c OUT      OUT/module.bc and OUT/words
+    trials/dispatch/catch.py wasmloop_c OUT      OUT/module.bc and OUT/words
 
 It takes a minute where build.py has built the libraries below, and what it proved of the crate is kept. Then, with the words of OUT/words in place of WORDS:
 

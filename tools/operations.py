@@ -146,6 +146,8 @@ ALL = [
     Place(HEAD, {INDEX: "{variant},"}, VARIANT, "enum Indexed"),
     Place(HEAD, {"label": "Indexed::{variant} => Op::{variant}(0, index),", INDEX: "Indexed::{variant} => Op::{variant}(index),"},
           r"^ *Indexed::(?P<key>\w+) => [^\n]*", "fn with"),
+    Place(READS, {"label": "Indexed::{variant} => push_short(operations, Op::{variant}(0, index)),",
+                  INDEX: "Indexed::{variant} => push_short(operations, Op::{variant}(index)),"}, r"^ *Indexed::(?P<key>\w+) => [^\n]*", "fn push_indexed"),
     Place("crates/decode/specs/Inner/Heads.antt", {INDEX: "indexed index.{variant} n = instr.{kind} n"}, r"^indexed index\.(?P<key>\w+)[^\n]*", "indexed : "),
     Place(READS, {
         "block": "{hex} => CodedOp::block(block)", "loop": "{hex} => CodedOp::loop_block(body)", "if": "{hex} => CodedOp::if_block(branch)",
@@ -221,6 +223,7 @@ PLANTED = [  # what is wrong, and where which text becomes which
     ("an opcode is read as another", HEAD, "0x6a => Head::Whole", "0x6a | 0x5b => Head::Whole"),
     ("a head too few", HEAD, "    LocalTee,\n", ""),
     ("a head becomes another", HEAD, r"Op::GlobalSet\(index", "Op::GlobalGet(index"),
+    ("a head is added as another", READS, r"Op::LocalSet\(index", "Op::LocalTee(index"),
     ("a head is another", "crates/decode/specs/Inner/Heads.antt", "instr.LocalTee n", "instr.LocalSet n"),
     ("a bracket is read as another", READS, "CodedOp::loop_block", "CodedOp::block"),
     ("an opcode in a clause", READS, "behind_opcode 0x11", "behind_opcode 0x10"),

@@ -1,6 +1,9 @@
 -- Where no integer is read, at its last byte.
 use Rattle.decode.proofs.Words.{ap, append_assoc, arith, inl, inr, length, length-append, List, NoneLeaves, ReadingStop, refl, Refuses, spelled_residue, sym}
-use Rattle.decode.proofs.Words.{u32, ℕ, ℤ, [], ◌*◌, ◌++◌, ◌+◌, ◌-◌, ◌<◌, ◌∙◌, ◌∷◌, ◌≡◌, ◌≢◌, ◌≤◌}
+use Rattle.decode.proofs.Words.{u32, ℕ, ℤ, [], ◌*◌, ◌++◌, ◌+◌, ◌-◌, ◌<◌, ◌^◌, ◌∙◌, ◌∷◌, ◌≡◌, ◌≢◌, ◌≤◌}
+use Rattle.decode.proofs.Words.{byte, Leaves, pos}
+use Rattle.std.proofs.lemmas.Int.{ints}
+use Rattle.std.specs.Prelude.{◌-ℤ◌}
 use Rattle.leb.specs.Spelling.{SpellsUnsigned, SpellsSigned, NoneStandsAt, greatest_length}
 use Rattle.leb.specs.LebFault.{RunsOn, IsOutOfRange}
 use Rattle.leb.specs.declared.fault.LebFault.{LebFault}
@@ -72,3 +75,18 @@ no_signed N longest is some few {bytes} fault {e} none on out end left = integer
 
 pub no_residue : {N : ℕ} {bytes : List ℕ} {e : ReadingStop} → Refuses (λ (text : List ℕ). NoneStandsAt SpellsSigned N text 0) bytes e → Refuses (NoneLeaves (spelled_residue N)) bytes e
 no_residue r = hence r (λ text none v rest l. none l.front rest l.spelled.0 l.split l.spelled.1)
+
+-- ---- integers of one byte
+
+pub alone_u32 : {n : ℕ} {bytes rest : List ℕ} → n < 0x80 → Leaves (byte n) bytes rest → Leaves (u32 n) bytes rest
+alone_u32 low l = record { front = l.front; spelled = rw l.spelled (omega (arith, low), omega (arith, low), refl); split = l.split }
+
+pub alone_residue : {b n : ℕ} {bytes rest : List ℕ} → spelled_residue 32 n (b ∷ []) → Leaves (byte b) bytes rest → Leaves (spelled_residue 32 n) bytes rest
+alone_residue s l = record { front = l.front; spelled = rw l.spelled s; split = l.split }
+
+pub low_residue : (b : ℕ) → b < 0x40 → spelled_residue 32 b (b ∷ [])
+low_residue b low = (pos b, inl (omega (arith, low), omega (arith, low), refl), inl (omega (arith, ints), refl))
+
+pub high_residue : (b : ℕ) → 0x40 ≤ b → b < 0x80 → spelled_residue 32 (b + 0xffffff80) (b ∷ [])
+high_residue b high low =
+    (pos b -ℤ pos (2 ^ 7), inr (omega (arith, high), omega (arith, low), omega (arith, high), refl), inr (omega (arith, ints, low), omega (arith, ints, low)))

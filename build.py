@@ -40,7 +40,7 @@ from typing import Dict, Iterator, List, NoReturn, Optional, Protocol, Sequence,
 TOP = os.path.dirname(os.path.realpath(__file__))
 # Libraries that are built as static ones, for C; what tools/statement.py says of them is of this proof.
 FOR_C = ("wasmloop_c",)
-# What a check takes of memory at most, as measured, in bytes: so much, so much more for each second of TAKES, and of that this part for each
+# What a check takes of memory at most, as measured, in bytes: so much, so much more for each second that it takes, and of that this part for each
 # job beside the first.
 CHECK, SECOND, BESIDE_ONE = 1_200_000_000, 8_000_000, 0.6
 # How exactly free memory is looked at, and the part of it that is used.
@@ -53,15 +53,8 @@ SHARED = 7 / 6
 BESIDE, NEARLY = ["nice", "-n", "10"], 0.9
 # How long nothing is said, in seconds.
 QUIET = 30
-# The processor seconds that `rt ci` takes for a crate's proof, and for compiling a program: the first column of tools/gate.txt. A crate of another
-# name is guessed to take as long as most.
-TAKES = {
-    "limits": 6, "tallies": 7, "schedules": 10, "slot": 13, "reduction": 16, "files": 16, "desk": 19, "world_log": 21, "events": 22, "marks": 27,
-    "leb": 32, "embed": 32, "numeric": 34, "loader": 38, "claims": 40, "pool": 40, "working": 52, "handles": 55, "imports": 58, "scripting": 59,
-    "example_plugin": 63, "example_clock": 70, "places": 78, "running": 80, "world": 87, "resident": 89, "instance": 90, "commands": 90,
-    "example_host": 93, "flaws": 98, "board": 103, "order": 118, "interp": 130, "script": 134, "words": 136, "wasmloop": 166, "syntax": 190,
-    "decode": 202, "sentences": 240, "validate": 252, "phases": 260, "serve": 282, "wasmloop_c": 380, "engine": 674,
-}
+# What each crate took in an earlier gate. A crate of another name is guessed to take as long as most.
+TABLE = f"{TOP}/tools/gate.txt"
 GUESSED = 100
 # How many seconds the pace that is seen needs before it counts as much as the one that was measured.
 TRUSTED = 300
@@ -146,7 +139,8 @@ class Plan:
     def __init__(self, programs: Sequence[RtCrate], at_once: int = 1, jobs: int = 1, below_alone: bool = False) -> None:
         self.crates = lowest_first(programs, below_alone)
         self.at_once, self.jobs = at_once, jobs
-        self.work = {it: TAKES.get(it.name, GUESSED) for it in self.crates}
+        known = costs()
+        self.work = {it: known[it.name][0] if it.name in known else GUESSED for it in self.crates}
         # what the longest chain of crates from each one up to the program takes (each crate stands behind those that it uses)
         self.behind: Dict[RtCrate, float] = {}
         for crate in reversed(self.crates):
@@ -254,6 +248,12 @@ def text_of(file: str) -> str:
         return ""
     with open(file, encoding="utf-8", errors="replace") as it:
         return it.read()
+
+
+def costs() -> Dict[str, Tuple[float, ...]]:
+    """Returns the processor seconds that an earlier gate took for each crate: for its proof, and for compiling a program; for its tests' proofs; for
+    its wrong bodies."""
+    return {name: tuple(map(float, rest.split())) for name, rest in re.findall(r"(?m)^(\w+): (.*)", text_of(TABLE))}
 
 
 def over_statements(crates: Sequence[RtCrate]) -> None:

@@ -20,7 +20,7 @@ width=$(sed -n 's/^max_line_length = //p' .editorconfig | head -n 1)
 if has flake8; then files '*.py' | xargs flake8 --max-line-length="$width" || wrong=1; fi
 # mypy of the package and the tools, and of each other folder, since modules of several have one name; MYPYPATH: the folders whose modules others use
 together='^(build|capi/make_wheel|capi/python/.*|tools/.*)\.py$'
-export MYPYPATH=capi/python:trials/programs:trials/spec:bench/cost:bench/peers:bench/kernels:examples/kit:examples/libraries:examples/rust/crates:examples/edge
+export MYPYPATH=capi/python:tools:trials/programs:trials/spec:bench/cost:bench/peers:bench/kernels:examples/kit:examples/libraries:examples/rust/crates:examples/edge
 strict() { mypy --strict --no-error-summary --cache-dir="${XDG_CACHE_HOME:-$HOME/.cache}/wasmloop/mypy" "$@"; }
 if has mypy; then
     # shellcheck disable=SC2046 # (no file's name has a blank)

@@ -13,7 +13,6 @@ from typing import Collection, DefaultDict, Dict, List, NamedTuple, Optional, Se
 TOP = os.path.dirname(os.path.dirname(os.path.realpath(__file__)))
 TICKS = os.sysconf("SC_CLK_TCK")
 KINDS = ("proof", "tests", "edits")
-TABLE = f"{TOP}/tools/gate.txt"
 # of what rt says, what tells how far it is
 ENDED = re.compile(r"^rt: (\w+)(: its tests are)? (?:(proved)|(NOT PROVED)|is (kept): .*)$")
 # of what tools/wrong.py says, the verdict on a wrong body
@@ -77,9 +76,9 @@ def job(pid: int) -> Optional[Job]:
 
 class Watch:
     """How far the proofs and the wrong bodies are: by what is said, and by the processes. What a process uses after the last look at it is lost:
-    under 1 in 100."""
+    under 1 in 100. What each crate took in an earlier gate is known to it."""
 
-    def __init__(self) -> None:
+    def __init__(self, known: Dict[str, Tuple[float, ...]]) -> None:
         with open(f"{TOP}/crates.txt", encoding="utf-8") as file:
             self.crates = re.findall(r"(?m)^(\w+)[^:\n]*:", file.read())
         self.by_rt = {it: len(files_in(f"{TOP}/crates/{it}/must-fail")) for it in self.crates}
@@ -93,7 +92,7 @@ class Watch:
         self.now: Set[Job] = set()
         self.used: Dict[Tuple[int, str, str, str], float] = {}
         self.told: Dict[Tuple[int, str], Optional[Job]] = {}
-        self.known, self.began = costs(), time.monotonic()
+        self.known, self.began = known, time.monotonic()
 
     def hears(self, line: str) -> Optional[str]:
         """Takes a line of `rt ci` or of tools/wrong.py; returns the crate or wrong body that it tells to have failed, if it does."""
@@ -187,10 +186,3 @@ def text_of(file: str) -> str:
 
 def files_in(folder: str) -> List[str]:
     return [f"{folder}/{it}" for it in os.listdir(folder) if it.endswith(".edit")] if os.path.isdir(folder) else []
-
-
-def costs() -> Dict[str, Tuple[float, ...]]:
-    """What an earlier gate took for each crate."""
-    if not os.path.isfile(TABLE):
-        return {}
-    return {name: tuple(map(float, rest.split())) for name, rest in re.findall(r"(?m)^(\w+): (.*)", text_of(TABLE))}

@@ -175,7 +175,8 @@ class Places:
         """What notes an operation: those that are seen as they are called, and others."""
         them = [it for it in self.seen if it and it[0] in self.first and (it[0].payload == "access") == access]
         same = [it for it in them if seen_name(it) == self.op_told(it)]
-        return wrapped(" ".join(map(seen_name, same)), 8)[:-1] + ";\n" + wrapped(", ".join(f"{seen_name(it)} {self.op_told(it)}" for it in them if it not in same), 8)
+        others = ", ".join(f"{seen_name(it)} {self.op_told(it)}" for it in them if it not in same)
+        return wrapped(" ".join(map(seen_name, same)), 8)[:-1] + ";\n" + wrapped(others, 8)
 
     def seen_kind(self) -> str:
         return "".join(f"seen_kind seen.{seen_name(it)} = kind.{it[0].name}\n" for it in self.seen if it) + "seen_kind seen.Nothing = kind.Other\n"
@@ -190,7 +191,8 @@ class Places:
 
     def seen_from(self) -> str:
         """The cases of a lemma about each place of the table."""
-        return "".join(f"seen_from row other kind.{kind} {it} = (refl, refl)\n" for kind in ["Other", *[it.name for it in self.kinds]] for it in ("seen.Nothing", "s"))
+        names = ["Other", *[it.name for it in self.kinds]]
+        return "".join(f"seen_from row other kind.{name} {it} = (refl, refl)\n" for name in names for it in ("seen.Nothing", "s"))
 
     def plain_by(self, of: str, access: bool) -> str:
         """The plain operation of a kind."""

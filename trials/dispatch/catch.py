@@ -1,14 +1,18 @@
 #!/usr/bin/env python3
 """Keeps the LLVM IR of a program, or of the library for C, as rattle hands it to clang, and the words of that call. A trial build from the IR of
 `rt try` doesn't tell which jumps the build has: LLVM moves other numbers between blocks there. One trial had 122 jumps in each loop, and the
-library that rattle built of the same sources 9. So a change of the loop's ways is tried in this IR, by hand, before its proof.
+library that rattle built of the same sources 9. So a change of the engine's loop is tried in this IR, by hand, before its proof.
 
     trials/dispatch/catch.py wasmloop_c OUT      OUT/module.bc and OUT/words
 
-It takes a minute where build.py has built the libraries below, and what it proved of the crate is kept. Then, with the words of OUT/words in place of WORDS:
+It takes a minute or two where build.py has built the libraries below, and what it proved of the crate is kept. Then, with the words of OUT/words, but for
+its two files, in place of WORDS:
 
-    clang WORDS -S -emit-llvm module.bc -o module.ll
-    clang WORDS -Xclang -disable-llvm-passes -c module.ll -mllvm -print-before=early-tailduplication -mllvm -filter-print-funcs=order::order::Order::call
+    clang WORDS -Xclang -disable-llvm-passes -S -emit-llvm module.bc -o before.ll     each function before it is inlined, to be edited
+    clang WORDS -c before.ll -o wasmloop_c.o                                          half a minute; as the only object of libwasmloop_c.a, and with
+                                                                                      nothing edited, dist/link.sh makes the bytes of dist/ of it
+    clang WORDS -S -emit-llvm before.ll -o behind.ll                                  each loop as it is compiled
+    clang WORDS -Xclang -disable-llvm-passes -c behind.ll -mllvm -print-before=early-tailduplication -mllvm -filter-print-funcs=order::order::Order::call
 """
 
 from __future__ import annotations

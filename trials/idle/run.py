@@ -72,6 +72,8 @@ def spent(words: Sequence[str], out: IO[str]) -> Tuple[Dict[str, float], Dict[st
             seen.append({**seen[-1], **times_of(ran.pid)})
             time.sleep(0.002)
     whole = sum(seen[-1].values())
+    if not whole:
+        sys.exit(f"no thread of {words[0]} is seen to take processor time")
     first, last = (next(times for times in seen if sum(times.values()) >= whole * part) for part in (1 / 4, 1 / 2))
     return seen[-1], {thread: time - first.get(thread, 0) for thread, time in last.items()}
 

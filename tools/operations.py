@@ -70,6 +70,7 @@ HEAD, READS, RULES = "crates/decode/src/head.rt", "crates/decode/src/code.rt", "
 INT, DOC, AT = r"^/// `(?P<text>i\d\d\.\w+)`(?:(?!pub fn).)*pub fn (?P<key>\w+)\(", "/// `{name}`: ..\npub fn {function}(", "at, slots, top"
 VARIANT = r"^ *(?P<key>\w+)(?:\([^\n]*\))?,$"
 OP = r"^(?P<in> *)(?:Op::|noted!\()(?P<key>\w+)(?:\([^)]*\))?\)? =>\s(?P<text>[^\n]*(?:\n(?P=in) {4}[^\n]*)*(?:\n(?P=in)\))?)"
+INDEXED = r"^ *Indexed::(?P<key>\w+) => [^\n]*"
 WHOLE = r"\Z"
 WIDE = "(Width::{width}, Extension::{last}) => "
 ALL = [
@@ -145,9 +146,9 @@ ALL = [
         INDEX: "Head::WithIndex(Indexed::{variant})", "*": "Head::Whole(Op::{variant}(0))"}, "classify"),
     Place(HEAD, {INDEX: "{variant},"}, VARIANT, "enum Indexed"),
     Place(HEAD, {"label": "Indexed::{variant} => Op::{variant}(0, index),", INDEX: "Indexed::{variant} => Op::{variant}(index),"},
-          r"^ *Indexed::(?P<key>\w+) => [^\n]*", "fn with"),
+          INDEXED, "fn with"),
     Place(READS, {"label": "Indexed::{variant} => push_short(operations, Op::{variant}(0, index)),",
-                  INDEX: "Indexed::{variant} => push_short(operations, Op::{variant}(index)),"}, r"^ *Indexed::(?P<key>\w+) => [^\n]*", "fn push_indexed"),
+                  INDEX: "Indexed::{variant} => push_short(operations, Op::{variant}(index)),"}, INDEXED, "fn push_indexed"),
     Place("crates/decode/specs/Inner/Heads.antt", {INDEX: "indexed index.{variant} n = instr.{kind} n"}, r"^indexed index\.(?P<key>\w+)[^\n]*", "indexed : "),
     Place(READS, {
         "block": "{hex} => CodedOp::block(block)", "loop": "{hex} => CodedOp::loop_block(body)", "if": "{hex} => CodedOp::if_block(branch)",

@@ -290,7 +290,7 @@ impl Behind for {kind.name} {{
             if kind.payload == "access":
                 # (an alignment does nothing, and one of two bytes stands first)
                 binds, args, typed = "(_, to)", re.sub(r"(?:, Two)?, align", "", args), typed.replace("load_unsigned", "load_two")
-            lines += [f"        Op::{it.name}{binds} => ahead::{typed}({args}, cue, Cue::{it.name}),\n" for it in its]
+            lines += [f"        Op::{it.name}{binds} => ahead::{typed}({args}, tip, Cue::{it.name}),\n" for it in its]
         return "".join(lines)
 
     def cues(self) -> str:

@@ -143,6 +143,11 @@ fn count_option<'a>(alloc: Global, name: &'a str, help: &'a str) -> Arg<'a> {
         .allow_negative_numbers(true)
 }
 
+/// A command with its help.
+fn described<'a>(alloc: Global, name: &'a str, about: &'a str, text: &'a str) -> Command<'a> {
+    Command::new(alloc, name).about(about).after_help(text)
+}
+
 /// A command with its help and its arguments.
 fn command<'a>(
     alloc: Global,
@@ -151,20 +156,17 @@ fn command<'a>(
     text: &'a str,
     words: Vec<Arg<'a>>,
 ) -> Result<Command<'a>, AllocError> {
-    Command::new(alloc, name)
-        .about(about)
-        .after_help(text)
-        .args(words)
+    described(alloc, name, about, text).args(words)
 }
 
 fn check_words<'a>(alloc: Global) -> Result<Command<'a>, AllocError> {
-    command(
+    described(
         alloc,
         "check",
         "Check whether a module is accepted",
         CHECK_TEXT,
-        vec![in alloc; file_word(alloc)]?,
     )
+    .arg(file_word(alloc))
 }
 
 fn arguments_word<'a>(alloc: Global) -> Arg<'a> {
@@ -243,6 +245,9 @@ fn raw_option<'a>(alloc: Global) -> Result<Arg<'a>, AllocError> {
 }
 
 fn work_words<'a>(alloc: Global) -> Result<Command<'a>, AllocError> {
+    let input = input_option(alloc)?;
+    let text = text_option(alloc)?;
+    let raw = raw_option(alloc)?;
     command(
         alloc,
         "work",
@@ -252,10 +257,10 @@ fn work_words<'a>(alloc: Global) -> Result<Command<'a>, AllocError> {
             file_word(alloc),
             operation_word(alloc),
             bytes_word(alloc),
-            input_option(alloc)?,
-            text_option(alloc)?,
+            input,
+            text,
             output_option(alloc),
-            raw_option(alloc)?,
+            raw,
             fuel_option(alloc, "fuel", FUEL_HELP),
             depth_option(alloc),
             trace_option(alloc, USED_HELP),
@@ -273,13 +278,13 @@ fn script_word<'a>(alloc: Global) -> Arg<'a> {
 }
 
 fn script_words<'a>(alloc: Global) -> Result<Command<'a>, AllocError> {
-    command(
+    described(
         alloc,
         "script",
         "Replay a script step by step and print the log",
         SCRIPT_TEXT,
-        vec![in alloc; script_word(alloc)]?,
     )
+    .arg(script_word(alloc))
 }
 
 fn serve_words<'a>(alloc: Global) -> Result<Command<'a>, AllocError> {
@@ -339,14 +344,22 @@ fn verb_words<'a>(alloc: Global, verb: Verb) -> Result<Command<'a>, AllocError> 
     }
 }
 
+/// The program without its commands.
+fn bare_program<'a>(alloc: Global) -> Result<Command<'a>, AllocError> {
+    described(
+        alloc,
+        "wasmloop",
+        "Run untrusted WebAssembly modules on event loops",
+        PROGRAM_TEXT,
+    )
+    .version("0.2.0")
+    .override_usage("wasmloop <COMMAND>")
+    .bin_name("wasmloop")
+}
+
 /// The program with its commands.
 pub(crate) fn program<'a>(alloc: Global) -> Result<Command<'a>, AllocError> {
-    let mut program = Command::new(alloc, "wasmloop")
-        .version("0.2.0")
-        .bin_name("wasmloop")?
-        .override_usage("wasmloop <COMMAND>")
-        .about("Run untrusted WebAssembly modules on event loops")
-        .after_help(PROGRAM_TEXT);
+    let mut program = bare_program(alloc)?;
     for verb in VERBS {
         program = program.subcommand(verb_words(alloc, verb)?)?;
     }

@@ -227,18 +227,27 @@ fn missing(alloc: Global, program: &mut clap::Command<'_>) -> Refused {
     }
 }
 
-/// The command of these words, the first of which is the program's name.
-///
-/// Returns `Help` if they ask for help or for the version; `Operation`, `Digits` or `TooManyBytes` if the argument or the input of `work`
-/// is malformed; `Memory` if an allocation failed; `NoCommand` if the command is unknown or missing; otherwise `Usage`.
-pub fn parse(alloc: Global, words: &[String]) -> Result<Command, Refused> {
-    let mut program = grammar::program(alloc)?;
+/// The command of the program's words.
+fn command_of<'a>(
+    alloc: Global,
+    program: &mut clap::Command<'a>,
+    words: &'a [String],
+) -> Result<Command, Refused> {
     let matches = match program.try_get_matches_from_mut(words) {
         Ok(matches) => matches,
         Err(error) => return Err(refused(alloc, error)),
     };
     match command_found(alloc, matches.subcommand()) {
         Some(command) => command,
-        None => Err(missing(alloc, &mut program)),
+        None => Err(missing(alloc, program)),
     }
+}
+
+/// The command of these words, the first of which is the program's name.
+///
+/// Returns `Help` if they ask for help or for the version; `Operation`, `Digits` or `TooManyBytes` if the argument or the input of `work`
+/// is malformed; `Memory` if an allocation failed; `NoCommand` if the command is unknown or missing; otherwise `Usage`.
+pub fn parse(alloc: Global, words: &[String]) -> Result<Command, Refused> {
+    let mut program = grammar::program(alloc)?;
+    command_of(alloc, &mut program, words)
 }

@@ -7,6 +7,7 @@ use crate::handling::Turn::{Again, Due, Idle, Init, Nearest, Start, Stop};
 use crate::telling::check_told;
 use handles::{Handles, Kind, List};
 use std::alloc::{AllocError, Global};
+use std::fmt::Debug;
 use std::process::Abort;
 use std::test::Fail;
 
@@ -75,15 +76,20 @@ fn tell_list(text: &mut String, list: &List) -> Result<(), AllocError> {
     text.push_str("; ")
 }
 
+/// Appends an answer.
+fn tell<T: Copy + Debug>(text: &mut String, answer: T) -> Result<(), AllocError> {
+    write!(text, "{answer:?}; ")
+}
+
 fn take(text: &mut String, handles: &mut Handles, turn: Turn) -> Result<(), AllocError> {
     match turn {
-        Init(kind) => write!(text, "{:?}; ", handles.init(kind)),
-        Start(handle, due, repeat) => { write!(text, "{}; ", start(handles, handle, due, repeat)) }
-        Again(handle, now) => write!(text, "{}; ", again(handles, handle, now)),
-        Stop(handle) => write!(text, "{}; ", stop(handles, handle)),
+        Init(kind) => tell(text, handles.init(kind)),
+        Start(handle, due, repeat) => tell(text, start(handles, handle, due, repeat)),
+        Again(handle, now) => tell(text, again(handles, handle, now)),
+        Stop(handle) => tell(text, stop(handles, handle)),
         Due(now) => tell_list(text, &handles.due(now)),
         Idle => tell_list(text, &handles.of_kind(Kind::Idle)),
-        Nearest => write!(text, "{:?}; ", handles.nearest()),
+        Nearest => tell(text, handles.nearest()),
     }
 }
 

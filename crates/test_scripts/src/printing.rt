@@ -44,21 +44,11 @@ fn ran(alloc: Global, kind: EntryKind, ending: Ending) -> Result<LogEntry, Alloc
     })
 }
 
-fn ran_line(alloc: Global, kind: EntryKind, ending: Ending) -> Result<String, AllocError> {
-    line_of(alloc, ran(alloc, kind, ending)?)
-}
-
-const BEFORE: &str = "loop 3 run ";
-
-const BEHIND: &str = " used 18446744073709551615 emit -9223372036854775808 9223372036854775807\n";
-
-/// What such a line says of the callback and of how it ended.
-fn words_of(line: &str) -> Option<&str> {
-    line.strip_prefix(BEFORE)?.strip_suffix(BEHIND)
-}
-
-fn has_words(rt: &impl Abort, line: &str, words: &str) {
-    assert_eq!(rt; words_of(line), Some(words));
+/// The line of such a callback, of which the words say its kind and how it ended.
+fn line_with(alloc: Global, words: &str) -> Result<String, AllocError> {
+    format!(in alloc;
+        "loop 3 run {words} used 18446744073709551615 emit -9223372036854775808 9223372036854775807\n"
+    )
 }
 
 fn check_ran(
@@ -68,23 +58,25 @@ fn check_ran(
     ending: Ending,
     words: &str,
 ) -> Result<(), AllocError> {
-    let line = ran_line(alloc, kind, ending)?;
-    has_words(rt, line.as_str(), words);
-    Ok(())
+    let wanted = line_with(alloc, words)?;
+    check_line(rt, alloc, ran(alloc, kind, ending)?, wanted.as_str())
 }
 
+/// Callbacks of each kind whose fuel was spent.
+const KINDS: [(EntryKind, &str); 8] = [
+    (EntryKind::Start, "start 8 spent"),
+    (EntryKind::Main, "main 8 spent"),
+    (EntryKind::Timer, "timer 8 spent"),
+    (EntryKind::Idle, "idle 8 spent"),
+    (EntryKind::After, "after 8 spent"),
+    (EntryKind::Async, "async 8 spent"),
+    (EntryKind::Check, "check 8 spent"),
+    (EntryKind::Close, "close 8 spent"),
+];
+
 #[test]
-fn prints_each_kind_of_callback(rt: HostRuntime) -> Result<(), Fail> {
-    for (kind, words) in [
-        (EntryKind::Start, "start 8 spent"),
-        (EntryKind::Main, "main 8 spent"),
-        (EntryKind::Timer, "timer 8 spent"),
-        (EntryKind::Idle, "idle 8 spent"),
-        (EntryKind::After, "after 8 spent"),
-        (EntryKind::Async, "async 8 spent"),
-        (EntryKind::Check, "check 8 spent"),
-        (EntryKind::Close, "close 8 spent"),
-    ] {
+fn prints_each_kind_of_callback(rt: HostRuntime) -> Result<(), AllocError> {
+    for &(kind, words) in &KINDS {
         check_ran(&rt, rt.alloc(), kind, Ending::Spent, words)?;
     }
     Ok(())
@@ -99,17 +91,20 @@ fn check_end(
     check_ran(rt, alloc, EntryKind::Close, ending, words)
 }
 
+/// Callbacks that ended by each trap.
+const TRAPS: [(TrapCode, &str); 7] = [
+    (TrapCode::Unreachable, "close 8 trap 1"),
+    (TrapCode::DivideByZero, "close 8 trap 2"),
+    (TrapCode::Overflow, "close 8 trap 3"),
+    (TrapCode::Memory, "close 8 trap 4"),
+    (TrapCode::Table, "close 8 trap 5"),
+    (TrapCode::EmptyElement, "close 8 trap 6"),
+    (TrapCode::OtherType, "close 8 trap 7"),
+];
+
 #[test]
-fn prints_each_trap_of_a_callback(rt: HostRuntime) -> Result<(), Fail> {
-    for (code, words) in [
-        (TrapCode::Unreachable, "close 8 trap 1"),
-        (TrapCode::DivideByZero, "close 8 trap 2"),
-        (TrapCode::Overflow, "close 8 trap 3"),
-        (TrapCode::Memory, "close 8 trap 4"),
-        (TrapCode::Table, "close 8 trap 5"),
-        (TrapCode::EmptyElement, "close 8 trap 6"),
-        (TrapCode::OtherType, "close 8 trap 7"),
-    ] {
+fn prints_each_trap_of_a_callback(rt: HostRuntime) -> Result<(), AllocError> {
+    for &(code, words) in &TRAPS {
         check_end(&rt, rt.alloc(), Ending::Trap(code), words)?;
     }
     Ok(())

@@ -1,6 +1,6 @@
 // What scripts are read as.
 
-use crate::telling::check_told;
+use crate::telling::{check_told, shows};
 use script::{Plan, ScriptFault, read};
 use std::alloc::{AllocError, Global};
 use std::test::Fail;
@@ -52,7 +52,7 @@ fn fault_of(alloc: Global, count: usize) -> Result<Option<ScriptFault>, AllocErr
 
 #[test]
 fn takes_65536_steps(rt: HostRuntime) -> Result<(), Fail> {
-    assert_eq!(rt; fault_of(rt.alloc(), 65_535)?, None);
-    assert_eq!(rt; fault_of(rt.alloc(), 65_536)?, Some(ScriptFault::Range));
+    shows(&rt, fault_of(rt.alloc(), 65_535)?, None);
+    shows(&rt, fault_of(rt.alloc(), 65_536)?, Some(ScriptFault::Range));
     Ok(())
 }

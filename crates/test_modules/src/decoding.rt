@@ -1,6 +1,6 @@
 // Texts cut short, wrong or too large, and what is reported of them.
 
-use crate::rows::{check_rows, shows};
+use crate::rows::{RowTeller, check_rows, shows};
 use decode::{DecodeFault, decode};
 use std::alloc::{AllocError, Global};
 use std::process::Abort;
@@ -204,6 +204,7 @@ fn allows_each(
     fronts: &Fronts,
     text: &[u8],
 ) -> Result<(), AllocError> {
+    shows(rt, fronts.accepted.last().copied(), Some(text.len()));
     for length in 0..=text.len() {
         let fault = told(alloc, text[..length].to_vec(alloc)?);
         shows(rt, (length, fronts.allow(length, fault)), (length, true));
@@ -213,7 +214,6 @@ fn allows_each(
 
 fn check_fronts(rt: &impl Abort, alloc: Global, fronts: &Fronts) -> Result<(), Fail> {
     let text = bytes_of(alloc, fronts.module)?;
-    shows(rt, fronts.accepted.last().copied(), Some(text.len()));
     Ok(allows_each(rt, alloc, fronts, text.as_slice())?)
 }
 
@@ -230,24 +230,32 @@ fn word_of(alloc: Global, fault: Option<DecodeFault>) -> Result<String, Fail> {
     }
 }
 
-fn word_told(alloc: Global, front: &str, text: &str) -> Result<String, Fail> {
-    let bytes = joined(alloc, front, text)?;
-    word_of(alloc, told(alloc, bytes))
+/// Tells of a text, which comes after this front, what is reported of both.
+#[derive(Drop)]
+struct After(&'static str);
+
+impl RowTeller for After {
+    fn tell(&self, alloc: Global, text: &str) -> Result<String, Fail> {
+        let bytes = joined(alloc, self.0, text)?;
+        word_of(alloc, told(alloc, bytes))
+    }
 }
 
-/// Each row has a text, which comes after `front`, and what is reported of both.
-fn check_texts(rt: &impl Abort, alloc: Global, front: &str, rows: &str) -> Result<(), Fail> {
-    check_rows(rt, rows, |text| word_told(alloc, front, text))
-}
+/// Fronts, and rows of texts that come after each.
+const ROWS: [(&str, &str); 5] = [
+    ("", TEXTS),
+    (OPENING, SECTIONS),
+    (BEFORE_CODE, CODE),
+    (BEFORE_EXPORTS, EXPORTS),
+    (CONSTANT, BEHIND),
+];
 
 #[test]
 fn told_of_rows(rt: HostRuntime) -> Result<(), Fail> {
-    let alloc = rt.alloc();
-    check_texts(&rt, alloc, "", TEXTS)?;
-    check_texts(&rt, alloc, OPENING, SECTIONS)?;
-    check_texts(&rt, alloc, BEFORE_CODE, CODE)?;
-    check_texts(&rt, alloc, BEFORE_EXPORTS, EXPORTS)?;
-    check_texts(&rt, alloc, CONSTANT, BEHIND)
+    for &(front, rows) in &ROWS {
+        check_rows(&rt, rt.alloc(), rows, &After(front))?;
+    }
+    Ok(())
 }
 
 /// What is reported of an opcode that is no instruction of the profile.
@@ -306,5 +314,6 @@ fn exporting(alloc: Global) -> Result<Module, Fail> {
 fn exports_by_name(rt: HostRuntime) -> Result<(), Fail> {
     let module = exporting(rt.alloc())?;
     has_exports(&rt, &module);
+    drop(module);
     Ok(())
 }

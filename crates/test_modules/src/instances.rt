@@ -1,12 +1,13 @@
 // Instances that take one turn after another: their memories, tables, globals and segments.
 
 use crate::instances::Turn::{Copy, Element, Get, Grow, Length, Load, Read, Set, Store, Write};
-use crate::rows::{check_rows, check_told_of, shows};
+use crate::rows::{RowTeller, check_rows, check_told_of, shows};
 use instance::access::AccessSize::{self, Eight, Four, One, Two};
 use instance::fault::InstFault;
 use instance::memory::Memory;
 use instance::state::{Instance, State};
 use std::alloc::{AllocError, Global};
+use std::fmt::Debug;
 use std::process::Abort;
 use std::test::Fail;
 use syntax::types::{Limits, Value};
@@ -38,34 +39,43 @@ enum Turn {
     Set(u32, Value),
 }
 
+/// Appends an answer.
+fn tell<T: Debug + Drop>(text: &mut String, answer: T) -> Result<(), AllocError> {
+    write!(text, "{answer:?}; ")
+}
+
+/// What the memory has to say of its growth.
+fn tell_grown(text: &mut String, state: &mut State, delta: u32) -> Result<(), AllocError> {
+    let grown = state.grow(delta).cast_signed();
+    write!(text, "{grown} of {}; ", state.size())
+}
+
+fn tell_copied(
+    text: &mut String,
+    memory: &Memory,
+    at: usize,
+    length: usize,
+) -> Result<(), AllocError> {
+    let mut room = [9; 16];
+    let into = &mut room[..length.min(16)];
+    let there = memory.read_into(at, into);
+    tell(text, there.then_some(&*into))
+}
+
 fn take(text: &mut String, state: &mut State, turn: Turn) -> Result<(), AllocError> {
     match turn {
-        Grow(delta) => write!(
-            text,
-            "{} of {}; ",
-            state.grow(delta).cast_signed(),
-            state.size()
-        ),
-        Load(address, offset, size) => write!(text, "{:?}; ", state.load(address, offset, size)),
+        Grow(delta) => tell_grown(text, state, delta),
+        Load(address, offset, size) => tell(text, state.load(address, offset, size)),
         Store(address, offset, size, number) => {
-            write!(
-                text,
-                "{}; ",
-                state.store(address, offset, size, number).is_some()
-            )
+            tell(text, state.store(address, offset, size, number).is_some())
         }
-        Length => write!(text, "{}; ", state.memory().len()),
-        Read(at, length) => write!(text, "{:?}; ", state.memory_mut().read(at, length)),
-        Copy(at, length) => {
-            let mut room = [9; 16];
-            let into = &mut room[..length.min(16)];
-            let there = state.memory().read_into(at, into);
-            write!(text, "{:?}; ", there.then_some(&*into))
-        }
-        Write(at, bytes) => write!(text, "{}; ", state.memory_mut().write(at, bytes)),
-        Element(index) => write!(text, "{:?}; ", state.element(index)),
-        Get(index) => write!(text, "{:?}; ", state.global(index)),
-        Set(index, value) => write!(text, "{}; ", state.set_global(index, value)),
+        Length => tell(text, state.memory().len()),
+        Read(at, length) => tell(text, state.memory_mut().read(at, length)),
+        Copy(at, length) => tell_copied(text, state.memory(), at, length),
+        Write(at, bytes) => tell(text, state.memory_mut().write(at, bytes)),
+        Element(index) => tell(text, state.element(index)),
+        Get(index) => tell(text, state.global(index)),
+        Set(index, value) => tell(text, state.set_global(index, value)),
     }
 }
 
@@ -85,7 +95,9 @@ fn told_by(alloc: Global, state: &mut State, turns: &[Turn]) -> Result<String, A
 /// What an instance of this module answers in these turns.
 fn told_of(alloc: Global, valid: &Valid, turns: &[Turn]) -> Result<String, Fail> {
     let mut instance = Instance::new(alloc, valid)?;
-    Ok(told_by(alloc, &mut instance.state, turns)?)
+    let told = told_by(alloc, &mut instance.state, turns);
+    drop(instance);
+    Ok(told?)
 }
 
 /// The valid module that has these sections.
@@ -96,7 +108,9 @@ fn valid_with(alloc: Global, sections: &str) -> Result<Valid, Fail> {
 /// What an instance of a module with these sections answers in these turns.
 fn told(alloc: Global, sections: &str, turns: &[Turn]) -> Result<String, Fail> {
     let valid = valid_with(alloc, sections)?;
-    told_of(alloc, &valid, turns)
+    let told = told_of(alloc, &valid, turns);
+    drop(valid);
+    told
 }
 
 fn check(
@@ -286,18 +300,25 @@ fn fault_of(alloc: Global, valid: &Valid) -> Option<InstFault> {
 
 fn fault_with(alloc: Global, sections: &str) -> Result<Option<InstFault>, Fail> {
     let valid = valid_with(alloc, sections)?;
-    Ok(fault_of(alloc, &valid))
+    let fault = fault_of(alloc, &valid);
+    drop(valid);
+    Ok(fault)
 }
 
-/// The fault of the instance of a module that has these sections, if it has one.
-fn fault_told(alloc: Global, sections: &str) -> Result<String, Fail> {
-    let fault = fault_with(alloc, sections)?;
-    Ok(format!(in alloc; "{fault:?}")?)
+/// Tells of the sections of a module the fault of its instance, if it has one.
+#[derive(Drop)]
+struct Fault;
+
+impl RowTeller for Fault {
+    fn tell(&self, alloc: Global, sections: &str) -> Result<String, Fail> {
+        let fault = fault_with(alloc, sections)?;
+        Ok(format!(in alloc; "{fault:?}")?)
+    }
 }
 
 #[test]
 fn segments_have_to_fit(rt: HostRuntime) -> Result<(), Fail> {
-    check_rows(&rt, SEGMENTS, |sections| fault_told(rt.alloc(), sections))
+    check_rows(&rt, rt.alloc(), SEGMENTS, &Fault)
 }
 
 #[test]

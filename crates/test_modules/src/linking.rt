@@ -1,7 +1,7 @@
-use crate::modules::check_sections;
-use crate::rows::{check_rows, shows};
+use crate::modules::Judge;
+use crate::rows::{RowTeller, check_rows, shows};
 use imports::{Call, CallType, EntryPoint, Linked};
-use std::alloc::Global;
+use std::alloc::{AllocError, Global};
 use std::process::Abort;
 use std::test::Fail;
 use test_fixtures::{guest_of, module_of};
@@ -31,16 +31,28 @@ const TABLE: &str = "
     emit = emit [I64] [I32]
 ";
 
-/// The name and the signature of the function of this name.
-fn call_told(alloc: Global, name: &str) -> Result<String, Fail> {
-    let call = Call::from_name(name.as_bytes()).ok_or("an unknown name")?;
+/// A function by its name and its signature.
+fn call_told(alloc: Global, call: Call) -> Result<String, AllocError> {
     let CallType { params, results } = call.signature();
-    Ok(format!(in alloc; "{} {params:?} {results:?}", call.name())?)
+    format!(in alloc; "{} {params:?} {results:?}", call.name())
+}
+
+/// Tells of a name the function of this name.
+#[derive(Drop)]
+struct Named;
+
+impl RowTeller for Named {
+    fn tell(&self, alloc: Global, name: &str) -> Result<String, Fail> {
+        let Some(call) = Call::from_name(name.as_bytes()) else {
+            return Err(Fail::from("an unknown name"));
+        };
+        Ok(call_told(alloc, call)?)
+    }
 }
 
 #[test]
 fn knows_the_functions_of_the_host(rt: HostRuntime) -> Result<(), Fail> {
-    check_rows(&rt, TABLE, |name| call_told(rt.alloc(), name))
+    check_rows(&rt, rt.alloc(), TABLE, &Named)
 }
 
 /// Imports three functions, and exports all that the host calls.
@@ -104,5 +116,5 @@ const PARTS: &str = "
 
 #[test]
 fn judges_imports_exports_and_segments(rt: HostRuntime) -> Result<(), Fail> {
-    check_sections(&rt, rt.alloc(), PARTS)
+    check_rows(&rt, rt.alloc(), PARTS, &Judge)
 }

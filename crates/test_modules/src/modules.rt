@@ -1,11 +1,10 @@
 // Modules whose code is made, and what becomes of modules.
 
-use crate::rows::check_rows;
+use crate::rows::RowTeller;
 use decode::decode;
 use imports::{LinkFault, link};
 use std::alloc::{AllocError, Global};
 use std::fmt::Display;
-use std::process::Abort;
 use std::test::Fail;
 use syntax::module::Module;
 use test_fixtures::{bytes_of, module_of};
@@ -96,11 +95,12 @@ pub fn verdict(alloc: Global, bytes: Vec<u8>) -> Result<String, Fail> {
     }
 }
 
-/// Each row has the sections of a module, and the verdict on it.
-pub fn check_sections(rt: &impl Abort, alloc: Global, rows: &str) -> Result<(), Fail> {
-    check_rows(
-        rt,
-        rows,
-        |sections| verdict(alloc, module_of(alloc, sections)?),
-    )
+/// Tells of the sections of a module the verdict on it.
+#[derive(Drop)]
+pub struct Judge;
+
+impl RowTeller for Judge {
+    fn tell(&self, alloc: Global, sections: &str) -> Result<String, Fail> {
+        verdict(alloc, module_of(alloc, sections)?)
+    }
 }

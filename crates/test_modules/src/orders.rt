@@ -2,7 +2,7 @@
 
 ghost use Rattle.std.specs.Prelude.{◌≤◌};
 
-use crate::rows::check_rows;
+use crate::rows::{RowTeller, check_rows};
 use imports::{EntryPoint, Linked};
 use order::{Order, OrderGoing, Outcome, Running, Told, Trail};
 use std::alloc::{AllocError, Global};
@@ -101,23 +101,37 @@ fn tell(text: &mut String, told: &Told) -> Result<(), AllocError> {
     }
 }
 
-/// What is reported of a run of the guest with these sections, at once or in slices of so many units.
-fn told(alloc: Global, sections: &str, units: u64) -> Result<String, Fail> {
-    let guest = guest_of(alloc, joined(alloc, FRONT, sections)?)?;
+fn told_of(alloc: Global, told: &Told) -> Result<String, AllocError> {
     let mut text = String::new(alloc);
-    tell(&mut text, &run(alloc, guest, units)?)?;
+    tell(&mut text, told)?;
     Ok(text)
+}
+
+/// Tells of the sections of a guest what is reported of its run, at once or in slices of so many units.
+#[derive(Drop)]
+struct Slices {
+    units: u64,
+}
+
+impl RowTeller for Slices {
+    fn tell(&self, alloc: Global, sections: &str) -> Result<String, Fail> {
+        let guest = guest_of(alloc, joined(alloc, FRONT, sections)?)?;
+        let told = run(alloc, guest, self.units)?;
+        let text = told_of(alloc, &told);
+        drop(told);
+        Ok(text?)
+    }
 }
 
 #[test]
 fn a_run_tells_what_it_used_and_where_it_stopped(rt: HostRuntime) -> Result<(), Fail> {
-    check_rows(&rt, MODULES, |sections| told(rt.alloc(), sections, 0))
+    check_rows(&rt, rt.alloc(), MODULES, &Slices { units: 0 })
 }
 
 #[test]
 fn in_slices_it_tells_the_same(rt: HostRuntime) -> Result<(), Fail> {
     for units in [1, 2, 3, 7, 199, 200, 201] {
-        check_rows(&rt, MODULES, |sections| told(rt.alloc(), sections, units))?;
+        check_rows(&rt, rt.alloc(), MODULES, &Slices { units })?;
     }
     Ok(())
 }

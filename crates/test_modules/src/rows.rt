@@ -1,5 +1,6 @@
 // Tests as rows of text. Who asserts is lent what is looked at: a test's own exits drop what it holds.
 
+use std::alloc::Global;
 use std::fmt::Debug;
 use std::process::Abort;
 use std::test::Fail;
@@ -10,7 +11,10 @@ fn parts_of(row: &str) -> Result<Option<(&str, &str)>, Fail> {
     if row.is_empty() || row.starts_with('#') {
         return Ok(None);
     }
-    Ok(Some(row.split_once(" = ").ok_or("a row of one part")?))
+    let Some(parts) = row.split_once(" = ") else {
+        return Err(Fail::from("a row of one part"));
+    };
+    Ok(Some(parts))
 }
 
 /// That what is seen is what is expected.
@@ -20,33 +24,37 @@ pub fn shows<T: Copy + Debug + PartialEq>(rt: &impl Abort, seen: T, expected: T)
 
 /// Asserts that what was printed of a text is what is wanted.
 pub fn check_told_of(rt: &impl Abort, told: &str, wanted: &str, text: &str) {
-    assert_eq!(rt; told, wanted, "of {text}");
+    shows(rt, (text, told), (text, wanted));
 }
 
-fn check_row<F: Fn(&str) -> Result<String, Fail>>(
+/// What tells of the texts of rows.
+pub trait RowTeller {
+    /// What is printed of this text.
+    fn tell(&self, alloc: Global, text: &str) -> Result<String, Fail>;
+}
+
+fn check_row<T: RowTeller>(
     rt: &impl Abort,
+    alloc: Global,
     text: &str,
     wanted: &str,
-    tell: &F,
-) -> Result<(), Fail>
-    requires { F.IsAlwaysCallable tell.now }
-{
-    let told = tell(text)?;
+    teller: &T,
+) -> Result<(), Fail> {
+    let told = teller.tell(alloc, text)?;
     check_told_of(rt, told.as_str(), wanted, text);
     Ok(())
 }
 
 /// Each row has a text and what is to be printed of it.
-pub fn check_rows<F: Fn(&str) -> Result<String, Fail>>(
+pub fn check_rows<T: RowTeller>(
     rt: &impl Abort,
+    alloc: Global,
     rows: &str,
-    tell: F,
-) -> Result<(), Fail>
-    requires { F.IsAlwaysCallable tell }
-{
+    teller: &T,
+) -> Result<(), Fail> {
     for row in rows.lines() {
         if let Some((text, wanted)) = parts_of(row)? {
-            check_row(rt, text, wanted, &tell)?;
+            check_row(rt, alloc, text, wanted, teller)?;
         }
     }
     Ok(())

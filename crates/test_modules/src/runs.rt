@@ -4,7 +4,7 @@ ghost use Rattle.std.specs.Prelude.{◌≤◌};
 ghost use Rattle.limits.specs.declared.TheConstants.{MAX_DEPTH};
 
 use crate::modules::with_body;
-use crate::rows::{check_rows, check_told_of};
+use crate::rows::{RowTeller, check_rows, check_told_of};
 use events::ended::{Ended, Ending};
 use instance::memory::Memory;
 use instance::state::Instance;
@@ -104,7 +104,9 @@ fn call(alloc: Global, valid: &Valid, fuel: u64, depth: u32) -> Result<Ended, Fa
         return Err(Fail::from("function 0 can't be called so"));
     }
     let mut instance = Instance::new(alloc, valid)?;
-    Ok(invoke(valid, &mut instance, &mut Idle, 0, &[], fuel, depth))
+    let ended = invoke(valid, &mut instance, &mut Idle, 0, &[], fuel, depth);
+    drop(instance);
+    Ok(ended)
 }
 
 fn tell_values(text: &mut String, values: &[Value]) -> Result<(), AllocError> {
@@ -146,7 +148,9 @@ fn ended_of(alloc: Global, bytes: Vec<u8>, fuel: u64, depth: u32) -> Result<Ende
     requires { (1 ≤ depth) × (depth ≤ 128) }
 {
     let valid = valid_of(alloc, bytes)?;
-    call(alloc, &valid, fuel, depth)
+    let ended = call(alloc, &valid, fuel, depth);
+    drop(valid);
+    ended
 }
 
 /// How a call of function 0 of this module ends.
@@ -154,29 +158,39 @@ fn end_of(alloc: Global, bytes: Vec<u8>, fuel: u64, depth: u32) -> Result<String
     requires { (1 ≤ depth) × (depth ≤ MAX_DEPTH) }
 {
     let ended = ended_of(alloc, bytes, fuel, depth)?;
-    Ok(told(alloc, &ended)?)
+    let told = told(alloc, &ended);
+    drop(ended);
+    Ok(told?)
 }
 
-/// Each row has a body, which comes after these sections, and how a call of it ends.
-fn check_bodies(rt: &impl Abort, alloc: Global, sections: &str, rows: &str) -> Result<(), Fail> {
-    check_rows(
-        rt,
-        rows,
-        |body| end_of(alloc, with_body(alloc, sections, body)?, 1_000_000, 8),
-    )
+/// Tells of a body, which comes after these sections, how a call of it ends.
+#[derive(Drop)]
+struct WithBody(&'static str);
+
+impl RowTeller for WithBody {
+    fn tell(&self, alloc: Global, body: &str) -> Result<String, Fail> {
+        end_of(alloc, with_body(alloc, self.0, body)?, 1_000_000, 8)
+    }
 }
+
+/// Sections, and rows of bodies that come after them.
+const ROWS: [(&str, &str); 3] = [
+    (TO_I32, BODIES),
+    (TO_TWO, "4107 4108 0b = return 7 8 used 2"),
+    (THREE, BLOCKS),
+];
 
 #[test]
 fn bodies_end_as_they_must(rt: HostRuntime) -> Result<(), Fail> {
-    let alloc = rt.alloc();
-    check_bodies(&rt, alloc, TO_I32, BODIES)?;
-    check_bodies(&rt, alloc, TO_TWO, "4107 4108 0b = return 7 8 used 2")?;
-    check_bodies(&rt, alloc, THREE, BLOCKS)
+    for &(sections, rows) in &ROWS {
+        check_rows(&rt, rt.alloc(), rows, &WithBody(sections))?;
+    }
+    Ok(())
 }
 
 #[test]
 fn bodies_past_16_bits_run(rt: HostRuntime) -> Result<(), Fail> {
-    check_bodies(&rt, rt.alloc(), TO_I32, BODIES_PAST_16_BITS)
+    check_rows(&rt, rt.alloc(), BODIES_PAST_16_BITS, &WithBody(TO_I32))
 }
 
 /// Modules at a limit, each a function 0 from nothing, and how a call of it ends.
@@ -209,14 +223,19 @@ const AT_LIMITS: &str = "
     0105016000017f 03020100 0506010100808004 0a0901070041c10040000b = return -1 used 2
 ";
 
+/// Tells of the sections of a module how a call of its function 0 ends.
+#[derive(Drop)]
+struct End;
+
+impl RowTeller for End {
+    fn tell(&self, alloc: Global, sections: &str) -> Result<String, Fail> {
+        end_with(alloc, sections, 1_000_000, 8)
+    }
+}
+
 #[test]
 fn modules_at_the_limits_run(rt: HostRuntime) -> Result<(), Fail> {
-    let alloc = rt.alloc();
-    check_rows(
-        &rt,
-        AT_LIMITS,
-        |sections| end_of(alloc, module_of(alloc, sections)?, 1_000_000, 8),
-    )
+    check_rows(&rt, rt.alloc(), AT_LIMITS, &End)
 }
 
 /// Appends 1,024 exports of function 0, each under a name of two bytes.

@@ -1,7 +1,6 @@
-use crate::modules::{check_sections, verdict, with_body};
-use crate::rows::check_rows;
+use crate::modules::{Judge, verdict, with_body};
+use crate::rows::{RowTeller, check_rows};
 use std::alloc::Global;
-use std::process::Abort;
 use std::test::Fail;
 
 /// One function `f` from nothing to an i32.
@@ -53,19 +52,21 @@ const BODIES_OF_THREE_TYPES: &str = "
     4107 4100 0401 0b 1a 0b = validate 1 Type
 ";
 
-/// Each row has a body, which comes after these sections, and the verdict on the module.
-fn check_bodies(rt: &impl Abort, alloc: Global, sections: &str, rows: &str) -> Result<(), Fail> {
-    check_rows(
-        rt,
-        rows,
-        |body| verdict(alloc, with_body(alloc, sections, body)?),
-    )
+/// Tells of a body, which comes after these sections, the verdict on the module.
+#[derive(Drop)]
+struct WithBody(&'static str);
+
+impl RowTeller for WithBody {
+    fn tell(&self, alloc: Global, body: &str) -> Result<String, Fail> {
+        verdict(alloc, with_body(alloc, self.0, body)?)
+    }
 }
 
 #[test]
 fn judges_bodies(rt: HostRuntime) -> Result<(), Fail> {
-    check_bodies(&rt, rt.alloc(), ONE_FUNCTION, BODIES)?;
-    check_bodies(&rt, rt.alloc(), THREE_TYPES, BODIES_OF_THREE_TYPES)
+    let three_types = WithBody(THREE_TYPES);
+    check_rows(&rt, rt.alloc(), BODIES, &WithBody(ONE_FUNCTION))?;
+    check_rows(&rt, rt.alloc(), BODIES_OF_THREE_TYPES, &three_types)
 }
 
 /// Sections.
@@ -115,7 +116,7 @@ const PARTS: &str = "
 
 #[test]
 fn judges_parts(rt: HostRuntime) -> Result<(), Fail> {
-    check_sections(&rt, rt.alloc(), PARTS)
+    check_rows(&rt, rt.alloc(), PARTS, &Judge)
 }
 
 /// Large bodies of the one function.
@@ -134,5 +135,5 @@ const LARGE: &str = "
 
 #[test]
 fn bounds_height_and_nesting(rt: HostRuntime) -> Result<(), Fail> {
-    check_bodies(&rt, rt.alloc(), ONE_FUNCTION, LARGE)
+    check_rows(&rt, rt.alloc(), LARGE, &WithBody(ONE_FUNCTION))
 }

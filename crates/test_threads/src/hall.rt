@@ -68,7 +68,6 @@ pub fn with_workers(
     Ok((claims, loop_seat, worker_seats))
 }
 
-#[tactic(auto, using(crate::proofs::Crew::passes_own))]
 fn with_passes(alloc: Global, workers: u32) -> Result<(Board, Pass, Vec<Pass>), AllocError>
     requires { workers ≤ MAX_WORKERS }
     ensures loops { IfOk result (λ m. length m.0.replies ≡ 1) }

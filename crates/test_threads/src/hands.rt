@@ -39,14 +39,34 @@ impl BoardHand<'_> {
         requires { reply.order.loop_no ≡ 0 }
     {
         let back = self.board.put_reply(rt, &mut self.pass, reply).err()?;
-        Some(back.order.request)
+        Some(request_of(back))
     }
 
     /// Collects a reply for the first loop. Its request.
     pub fn collect<R: Wait>(&mut self, rt: &R) -> Option<u32> {
         let reply = self.board.collect(rt, &mut self.pass, 0)?;
-        Some(reply.order.request)
+        Some(request_of(reply))
     }
+}
+
+fn request_of(reply: Reply) -> u32 {
+    let request = reply.order.request;
+    drop(reply);
+    request
+}
+
+/// With one of the board's passes.
+fn one_hand<'a>(board: &'a Board, passes: &mut Vec<Pass>) -> BoardHand<'a>
+    requires loops { 0 < length board.now.replies }
+    requires count { 1 ≤ length passes.old.items }
+    requires passes { All (IsNewPass board.now) passes.old.items }
+    ensures count { length passes.old.items ≡ length passes.new.items + 1 }
+    ensures passes { All (IsNewPass board.now) passes.new.items }
+{
+    let Some(pass) = passes.pop() else {
+        unreachable!()
+    };
+    BoardHand { board, pass }
 }
 
 /// With two of the board's passes.
@@ -57,11 +77,5 @@ pub fn two_hands<'a>(board: &'a Board, passes: &mut Vec<Pass>) -> (BoardHand<'a>
     ensures count { length passes.old.items ≡ length passes.new.items + 2 }
     ensures passes { All (IsNewPass board.now) passes.new.items }
 {
-    let (Some(one), Some(two)) = (passes.pop(), passes.pop()) else {
-        unreachable!()
-    };
-    (
-        BoardHand { board, pass: one },
-        BoardHand { board, pass: two },
-    )
+    (one_hand(board, passes), one_hand(board, passes))
 }

@@ -1,6 +1,6 @@
 // Marks: sends and takes, by threads.
 
-ghost use Rattle.std.specs.Prelude.{◌≡◌, ◌+◌, ◌≤◌, ◌<◌, [], ◌∷◌, slice_index, sum, IfOk};
+ghost use Rattle.std.specs.Prelude.{◌≡◌, ◌+◌, ◌≤◌, ◌<◌, [], ◌∷◌, slice_index, sum, All, IfOk};
 ghost use Rattle.std.specs.Thread.{IsSync};
 ghost use Rattle.tallies.specs.Counts.{none_counted};
 ghost use Rattle.marks.specs.Counts.{new_sender, new_taker};
@@ -52,22 +52,36 @@ fn an_unjoined_seats_sends_are_taken_once(rt: HostRuntime) -> Result<(), Fail> {
 }
 
 /// What a loop takes from this async before a send to it, after that, and after another.
-fn take_thrice(alloc: Global, async_no: u32) -> Result<(u64, u64, u64), Fail>
+fn take_thrice(
+    marks: &Marks,
+    taker: &mut TakeSeat,
+    seat: &mut SendSeat,
+    async_no: u32,
+) -> Result<(u64, u64, u64), SendsUsedUp>
+    requires own { (taker.old.marks ≡ marks.now) × (seat.old.marks ≡ marks.now) }
+    requires there { async_no < MAX_ASYNCS }
+{
+    let before = marks.take(taker, async_no);
+    marks.send(seat, async_no)?;
+    let first = marks.take(taker, async_no);
+    marks.send(seat, async_no)?;
+    Ok((before, first, marks.take(taker, async_no)))
+}
+
+/// What a new loop takes so.
+fn taken_anew(alloc: Global, async_no: u32) -> Result<(u64, u64, u64), Fail>
     requires { async_no < MAX_ASYNCS }
 {
     let (marks, mut taker, mut seat) = one_sender(alloc)?;
-    let before = marks.take(&mut taker, async_no);
-    marks.send(&mut seat, async_no)?;
-    let first = marks.take(&mut taker, async_no);
-    marks.send(&mut seat, async_no)?;
-    let second = marks.take(&mut taker, async_no);
-    Ok((before, first, second))
+    let taken = take_thrice(&marks, &mut taker, &mut seat, async_no);
+    drop((marks, taker, seat));
+    Ok(taken?)
 }
 
 #[test]
 fn sends_between_two_takes_are_taken(rt: HostRuntime) -> Result<(), Fail> {
     for async_no in 0..MAX_ASYNCS as u32 {
-        shows(&rt, take_thrice(rt.alloc(), async_no)?, (0, 1, 1));
+        shows(&rt, taken_anew(rt.alloc(), async_no)?, (0, 1, 1));
     }
     Ok(())
 }
@@ -121,12 +135,29 @@ fn each_async_counts_by_itself(rt: HostRuntime) -> Result<(), Fail> {
     Ok(())
 }
 
+/// The marks of a loop with as many send seats as may be.
+fn most_senders(alloc: Global) -> Result<(Marks, TakeSeat, Vec<SendSeat>), AllocError>
+    ensures taker { IfOk result (λ m. m.1.marks ≡ m.0) }
+    ensures senders { IfOk result (λ m. All (λ s. s.marks ≡ m.0) m.2.items) }
+{
+    Marks::new(alloc, MAX_SEND_SEATS)
+}
+
+/// Sends once to the last async, and joins.
+fn send_and_join(marks: &Marks, taker: &mut TakeSeat, mut seat: SendSeat) -> Result<(), SendsUsedUp>
+    requires { (taker.old.marks ≡ marks.now) × (seat.marks ≡ marks.now) }
+    ensures { taker.new.marks ≡ marks.now }
+{
+    let sent = marks.send(&mut seat, LAST);
+    marks.join(taker, seat);
+    sent
+}
+
 #[test]
 fn all_send_seats_send_and_join(rt: HostRuntime) -> Result<(), Fail> {
-    let (marks, mut taker, mut seats) = Marks::new(rt.alloc(), MAX_SEND_SEATS)?;
-    while let Some(mut seat) = seats.pop() {
-        assert_eq!(rt; marks.send(&mut seat, LAST), Ok(()));
-        marks.join(&mut taker, seat);
+    let (marks, mut taker, mut seats) = most_senders(rt.alloc())?;
+    while let Some(seat) = seats.pop() {
+        shows(&rt, send_and_join(&marks, &mut taker, seat), Ok(()));
     }
     shows(&rt, marks.take(&mut taker, LAST), MAX_SEND_SEATS as u64);
     Ok(())

@@ -48,13 +48,19 @@ fn fill<R: Wait + Abort>(rt: &R, jobs: &Jobs, hand: &mut BoardHand<'_>) -> Resul
 fn by_two_hands<R: Wait + Abort>(rt: &R, alloc: Global, jobs: &Jobs) -> Result<(), AllocError> {
     let (board, mut passes) = Board::new(alloc, 1, 2)?;
     let (mut poster, mut worker) = two_hands(&board, &mut passes);
-    pass_on(rt, jobs, &mut poster, &mut worker)
+    let passed = pass_on(rt, jobs, &mut poster, &mut worker);
+    drop((poster, worker));
+    drop((board, passes));
+    passed
 }
 
 fn by_one_hand<R: Wait + Abort>(rt: &R, alloc: Global, jobs: &Jobs) -> Result<(), AllocError> {
     let (board, mut passes) = Board::new(alloc, 2, 2)?;
-    let (mut hand, _other) = two_hands(&board, &mut passes);
-    fill(rt, jobs, &mut hand)
+    let (mut hand, other) = two_hands(&board, &mut passes);
+    let filled = fill(rt, jobs, &mut hand);
+    drop((hand, other));
+    drop((board, passes));
+    filled
 }
 
 #[test]

@@ -38,7 +38,10 @@ fn in_hall<S: Scene, R: Threads + Wait + Sync>(
     let made = jobs.in_turn(count)?;
     let (hall, gear) = Hall::new(jobs.alloc, workers)?;
     let (mut side, mut spares) = hall.settle(made, gear);
-    scene.play(rt, jobs, &mut side, &mut spares)
+    let seen = scene.play(rt, jobs, &mut side, &mut spares);
+    drop((side, spares));
+    drop(hall);
+    seen
 }
 
 /// With so many workers at most, and so many jobs. What is seen, and how many owners the counter of calls has once the

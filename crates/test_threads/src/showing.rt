@@ -10,5 +10,5 @@ pub fn shows<T: Copy + Debug + PartialEq>(rt: &impl Abort, seen: T, expected: T)
 
 /// Asserts that this was printed.
 pub fn check_told(rt: &impl Abort, told: &str, wanted: &str) {
-    assert_eq!(rt; told, wanted);
+    shows(rt, told, wanted);
 }

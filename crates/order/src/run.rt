@@ -242,7 +242,7 @@ impl Order {
             fuel: self.fuel,
             depth: self.depth,
         };
-        self.call(state, stack, host, &mut [], &call)
+        self.call(&call, state, stack, host, &mut [])
     }
 
     /// `uv_work`, with the fuel that is left, and its result, where it returns.
@@ -292,18 +292,18 @@ impl Order {
             fuel,
             depth: self.depth,
         };
-        let ended = self.call(state, stack, host, &mut places, &call);
+        let ended = self.call(&call, state, stack, host, &mut places);
         (ended, places[0])
     }
 
     /// A function of the order's module, whose results go to the first of these places.
     fn call(
         &self,
+        call: &FunctionCall,
         state: &mut State,
         stack: &mut CallStack,
         host: &mut WorkHost,
         places: &mut [Value],
-        call: &FunctionCall,
     ) -> BareEnded
         requires takes { TakesArguments (arc_value self.now.module).contents call.now.function call.now.args.now }
         requires room { result_count (arc_value self.now.module).contents call.now.function ≤ length places.old }

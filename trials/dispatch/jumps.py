@@ -2,7 +2,8 @@
 """Whether the engine's loops still have the jumps of their own that they had, in the program and in the library: how often each loop jumps to an
 operation, and by how many edges the loop is led to where such a jump is shared. An arm of the loop has a jump of its own as long as few edges lead to
 its way (crates/engine/src/ways.rt); with one more the compiler lets all share one. A function of the loop that several loops call may become a call at
-each operation, which takes ten times as long, and in no loop that has a single caller is it seen. No clause notices either.
+each operation, which takes ten times as long, and in no loop that has a single caller is it seen. And where the compiler keeps the address of the
+operations in r13 or rbp, it works out that of the next one in two instructions, one more for each dispatch. No clause notices any of these.
 
     jumps.py FILE..          FILE is a program or libwasmloop.a: status 1 where a loop is not as its line of jumps.txt says
     jumps.py FILE.. --write  writes their lines of jumps.txt, which belong to the bytes of these files: a change of the engine or of the compiler
@@ -43,13 +44,15 @@ class Line(NamedTuple):
 
 
 class Loop(NamedTuple):
-    """How many computed jumps a function has, how many of them are shared, and by how many edges the most."""
+    """How many computed jumps a function has, how many of them are shared, and by how many edges the most; and how often it works out the address of
+    an operation in two instructions."""
     jumps: int
     shared: int
     edges: int
+    split: int
 
     def __str__(self) -> str:
-        return f"{self.jumps} jumps, {self.shared} shared, {self.edges} edges at most"
+        return f"{self.jumps} jumps, {self.shared} shared, {self.edges} edges at most, {self.split} addresses in two instructions"
 
 
 def functions(told: str) -> Iterator[tuple[str, List[Line]]]:
@@ -76,7 +79,8 @@ def loop(lines: List[Line]) -> Loop:
             begin = stretch(lines, end)
             above = begin > 0 and lines[begin - 1].goes_on()
             edges.append(above + sum(into[lines[it].at] for it in range(begin, end + 1)))
-    return Loop(len(edges), sum(it > 1 for it in edges), max(edges, default=0))
+    split = sum(bool(re.match(r"lea +0x0\(,%\w+,8\)", line.does)) for line in lines)
+    return Loop(len(edges), sum(it > 1 for it in edges), max(edges, default=0), split)
 
 
 def counted(told: str) -> Dict[str, Loop]:
@@ -103,11 +107,11 @@ def loops_of(file: str) -> Dict[str, Loop]:
 
 def self_test() -> int:
     arms = "".join(f"  {16 * n:x}:\tmov    (%rax),%ecx\n  {16 * n + 4:x}:\tjmp    *%rcx\n" for n in range(1, FEWEST))
-    told = ("0000 <f::<#12>>:\n" + arms + "  200:\tjne    300 <f+0x300>\n  204:\tmov    %rax,%rbx\n  208:\tret\n"
+    told = ("0000 <f::<#12>>:\n" + arms + "  200:\tjne    300 <f+0x300>\n  204:\tlea    0x0(,%rax,8),%rbx\n  208:\tret\n"
             "  300:\tmov    (%rax),%ecx\n  304:\tcmp    %rcx,%rdx\n  308:\tjb     210 <f+0x210>\n  30c:\tjmp    *%rcx\n"
             "  310:\tjmp    304 <f+0x304>\n\n0400 <g>:\n  400:\tjmp    *%rcx\n")
     # (the last of `f` is led to by the jump at 200 and that at 310)
-    right = counted(told) == {"f 1": Loop(FEWEST, 1, 2)}
+    right = counted(told) == {"f 1": Loop(FEWEST, 1, 2, 1)}
     print(f"jumps.py: {'as it should be' if right else f'WRONG: {counted(told)}'}")
     return int(not right)
 

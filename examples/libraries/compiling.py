@@ -8,6 +8,7 @@ from __future__ import annotations
 
 import os
 import pathlib
+import shutil
 import subprocess
 import sys
 from typing import Collection, Iterable, Mapping, Sequence
@@ -62,7 +63,17 @@ def fetch(package: str) -> bool:
         return False
     folder.mkdir()
     call("tar", "xf", archives[0], "-C", folder, "--strip-components=1")
+    without_links(folder)
     return True
+
+
+def without_links(folder: pathlib.Path) -> None:
+    """Puts the file to which a link leads in the link's place: `rt ci` refuses a tree with links."""
+    for link in [it for it in folder.rglob("*") if it.is_symlink()]:
+        to = link.resolve()
+        link.unlink()
+        if to.is_file() and folder.resolve() in to.parents:
+            shutil.copyfile(to, link)
 
 
 def compile_all(compiler: Sequence[str], sources: Iterable[pathlib.Path], folder: pathlib.Path) -> list[pathlib.Path]:

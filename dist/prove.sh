@@ -18,7 +18,7 @@ top=$(cd "$(dirname "$0")/.." && pwd)
 folder=$(mktemp -d)
 trap 'rm -rf "$folder"' EXIT
 cp -r "$top/build.py" "$top/HANDLES" "$top/capi" "$top/dist" "$folder"
-# (by it build.py knows which crates to begin with, and what they take)
+# (build.py's table of what each crate takes)
 mkdir "$folder/tools"
 cp "$top/tools/gate.txt" "$folder/tools"
 "$top/dist/sums.sh" | sed -n 's/^[0-9a-f]*  \([a-z_]*\)[^:]*:.*/\1/p' | while read -r crate; do

@@ -17,8 +17,10 @@ cc -std=c11 -O1 -Wall -Wextra -shared -fPIC -o "$work/refuse.so" "$top/trials/me
 
 # The same program, but that it goes on with the next steps of a script where one found no memory.
 copy=$work/copy
-mkdir "$copy"
+mkdir -p "$copy/tools"
 cp -a "$top/HANDLES" "$top/crates.txt" "$top/wasmloop" "$top/build.py" "$top/crates" "$copy/"
+# (build.py's table of what each crate takes)
+cp "$top/tools/gate.txt" "$copy/tools"
 python3 "$top/trials/memory/go_on.py" "$copy/crates/scripting/src/running.rt"
 "$copy/wasmloop" --version
 

@@ -40,9 +40,9 @@ from typing import Dict, Iterator, List, NoReturn, Optional, Protocol, Sequence,
 TOP = os.path.dirname(os.path.realpath(__file__))
 # Libraries that are built as static ones, for C; what tools/statement.py says of them is of this proof.
 FOR_C = ("wasmloop_c",)
-# What a check takes of memory at most, as measured, in bytes: so much, so much more for each second that it takes, and of that this part for each
-# job beside the first.
-CHECK, SECOND, BESIDE_ONE = 1_200_000_000, 8_000_000, 0.6
+# What a check takes of memory, as measured, in bytes: so much, so much more for each second that it takes, this at most; and of that this part more for
+# each job beside the first.
+CHECK, SECOND, MOST, BESIDE_ONE = 1_200_000_000, 8_000_000, 3_700_000_000, 0.1
 # How exactly free memory is looked at, and the part of it that is used.
 STEP, USED = 250_000_000, 0.9
 # More jobs than these hardly shorten a check.
@@ -160,7 +160,7 @@ class Plan:
         return at_one + (work - at_one) * SHARED / self.jobs
 
     def memory(self, crate: RtCrate, jobs: int) -> float:
-        return (CHECK + SECOND * self.work[crate]) * (1 + BESIDE_ONE * (jobs - 1))
+        return min(CHECK + SECOND * self.work[crate], MOST) * (1 + BESIDE_ONE * (jobs - 1))
 
     def fitting(self, crate: RtCrate, jobs: int, room: float) -> int:
         """Returns as many of the jobs as have so much memory."""
@@ -252,7 +252,9 @@ def text_of(file: str) -> str:
 
 def costs() -> Dict[str, Tuple[float, ...]]:
     """Returns the processor seconds that an earlier gate took for each crate: for its proof, and for compiling a program; for its tests' proofs; for
-    its wrong bodies."""
+    its wrong bodies. Without that table, which order and number of checks rest on, it ends this program."""
+    if not os.path.isfile(TABLE):
+        sys.exit(f"{program_name}: expected the table of what crates take, {TABLE}, found no such file")
     return {name: tuple(map(float, rest.split())) for name, rest in re.findall(r"(?m)^(\w+): (.*)", text_of(TABLE))}
 
 
@@ -399,7 +401,7 @@ def without_rt(names: Sequence[str]) -> int:
 
 def over_those_there(rtlib: Kit, programs: Sequence[RtCrate], folder: Optional[str], is_anew: bool, most_jobs: int) -> int:
     """Proves and builds the programs over libraries that are there, in a folder or where `rt ci` leaves them."""
-    # (dist/prove.sh has this file alone, and takes nothing from earlier runs)
+    # (dist/prove.sh, which takes nothing from earlier runs, has no file of tools beside the table)
     sys.path.insert(0, f"{TOP}/tools")
     from kept import KeptFiles
     plan, kept = Plan(programs, *shares()), KeptFiles("library")

@@ -20,7 +20,7 @@ from sources import TOP, Sources as Texts, asked, finish, plant
 LIST = "tools/rules.txt"
 FILES = {
     "leb": ["Spelling"], "syntax": ["Language", "Instructions", "Binary"], "numeric": ["Integer", "ByOperator"], "instance": ["Store", "Fresh"],
-    "validate": ["Stack", "Typing", "Valid", "Segments"], "reduction": ["Configuration", "Step", "Operators", "Run", "Invoking"],
+    "valid": ["Stack", "Typing", "Valid", "Segments"], "reduction": ["Configuration", "Step", "Operators", "Run", "Invoking"],
 }
 RULE = re.compile(r"^ *-- Core (\d\.\d), ([\d.]+): (.+)$")
 HEAD = re.compile(r"^(?:abbrev pub|unfoldable pub|pub (data|record)) ([^\s:(]+)")
@@ -118,7 +118,7 @@ def faults(sources: Sources) -> list[str]:
     return faults
 
 
-STEP, TYPING, VALID = ("crates/reduction/specs/Step.antt", "crates/validate/specs/Typing.antt", "crates/validate/specs/Valid.antt")
+STEP, TYPING, VALID = ("crates/reduction/specs/Step.antt", "crates/valid/specs/Typing.antt", "crates/valid/specs/Valid.antt")
 PLANTED = [  # what is wrong, and where which text becomes which
     ("a step names no rule", STEP, "-- Core 1.0, 4.4.2: select\n", ""),
     ("a rule of typing is named twice", TYPING, "3.3.5: nop", "3.3.5: unreachable"),

@@ -17,7 +17,7 @@ mkdir -p "$work/crates/stress/src"
 cp "$top/trials/threads/stress.rt.txt" "$work/crates/stress/src/main.rt"
 {
     cat "$top/crates.txt"
-    echo "stress: anyhow claims marks board pool order imports validate decode thiserror"
+    echo "stress: anyhow claims marks board pool order imports validate valid decode thiserror"
 } > "$work/crates.txt"
 cd "$work/crates/stress"
 # The interpreter gets no turn, since it would need far more steps than it has. The other run may take ten minutes.

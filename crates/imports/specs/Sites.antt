@@ -3,7 +3,7 @@ use Rattle.std.specs.Prelude.{◌≡◌, ℕ, All, Some, slice_get, take}
 use Rattle.syntax.specs.declared.contents.Contents.{Contents}
 use Rattle.syntax.specs.declared.contents.Import.{Import}
 use Rattle.syntax.specs.declared.contents.ModuleExport.{ModuleExport}
-use Rattle.validate.specs.Segments.{ElementFits, DataFits}
+use Rattle.valid.specs.Segments.{ElementFits, DataFits}
 use Rattle.imports.specs.Linking.{IsKnown, IsCallable}
 use Rattle.imports.specs.declared.site.UnlinkedPart.{UnlinkedPart}
 use Rattle.imports.specs.declared.site.UnlinkedPart.TheVariants as site

@@ -6,7 +6,7 @@ ghost use Rattle.imports.specs.Sites.{FirstUnknown, FirstUncallable, IsMisfit};
 
 use crate::linked::{check_import, is_callable};
 use syntax::contents::{Contents, Import};
-use validate::Valid;
+use valid::Valid;
 
 /// The part of a valid module that doesn't fit the host.
 #[derive(Clone, Copy, Debug, PartialEq, Eq)]

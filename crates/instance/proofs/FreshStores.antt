@@ -7,9 +7,9 @@ use Rattle.limits.specs.declared.TheConstants.{PAGE_SIZE}
 use Rattle.syntax.specs.declared.contents.Contents.{Contents}
 use Rattle.syntax.specs.declared.contents.Element.{Element}
 use Rattle.syntax.specs.declared.contents.Data.{Data}
-use Rattle.validate.specs.Typing.{function_types}
-use Rattle.validate.specs.Valid.{ValidModule, ValidElement}
-use Rattle.validate.specs.Segments.{ElementFits, DataFits, offset_in, minimum}
+use Rattle.valid.specs.Typing.{function_types}
+use Rattle.valid.specs.Valid.{ValidModule, ValidElement}
+use Rattle.valid.specs.Segments.{ElementFits, DataFits, offset_in, minimum}
 use Rattle.instance.specs.Store.{Store}
 use Rattle.instance.specs.Fresh.{IsFresh, overwritten, with_element, with_data, all_written, fresh_store}
 use Rattle.instance.specs.Storing.{NamesFunction, IsStoreOf}

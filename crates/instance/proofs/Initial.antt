@@ -3,9 +3,9 @@ use Rattle.std.proofs.Common.{◌≡◌, suc, List, [], ◌∷◌, map, All, ref
 use Rattle.syntax.specs.declared.types.ValType.{ValType}
 use Rattle.syntax.specs.declared.contents.Global.{Global}
 use Rattle.syntax.specs.Code.{Code}
-use Rattle.validate.specs.Typing.{type_of}
-use Rattle.validate.specs.Segments.{constant_in}
-use Rattle.validate.specs.Valid.{IsConstant}
+use Rattle.valid.specs.Typing.{type_of}
+use Rattle.valid.specs.Segments.{constant_in}
+use Rattle.valid.specs.Valid.{IsConstant}
 
 constant_type : (t : ValType) (code : Code) → IsConstant t code → type_of (constant_in code) ≡ t
 constant_type t code (v, is, typed) = ap (λ (c : Code). type_of (constant_in c)) is ∙ typed

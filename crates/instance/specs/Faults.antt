@@ -1,7 +1,7 @@
 -- Why an instance of a module could not be created.
 use Rattle.std.specs.Prelude.{ℕ, All}
 use Rattle.syntax.specs.declared.contents.Contents.{Contents}
-use Rattle.validate.specs.Segments.{ElementFits, DataFits, SegmentsFit}
+use Rattle.valid.specs.Segments.{ElementFits, DataFits, SegmentsFit}
 use Rattle.instance.specs.declared.fault.InstFault.{InstFault}
 use Rattle.instance.specs.declared.fault.InstFault.TheVariants.{ElementRange, DataRange, Memory}
 

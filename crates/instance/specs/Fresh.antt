@@ -6,7 +6,7 @@ use Rattle.syntax.specs.declared.types.Limits.{Limits}
 use Rattle.syntax.specs.declared.types.Value.{Value}
 use Rattle.syntax.specs.declared.contents.Element.{Element}
 use Rattle.syntax.specs.declared.contents.Data.{Data}
-use Rattle.validate.specs.Segments.{SegmentsFit, constant_in, offset_in, minimum}
+use Rattle.valid.specs.Segments.{SegmentsFit, constant_in, offset_in, minimum}
 use Rattle.instance.specs.Store.{Store, MemoryInstance, page_limit}
 
 -- own: the list with these in place of what stood from a place on

@@ -3,8 +3,8 @@ use Rattle.std.specs.Prelude.{◌≡◌, ℕ, ◌*◌, ◌<◌, ◌≤◌, max, 
 use Rattle.limits.specs.declared.TheConstants.{PAGE_SIZE}
 use Rattle.syntax.specs.declared.types.Value.{Value}
 use Rattle.syntax.specs.declared.contents.Contents.{Contents}
-use Rattle.validate.specs.Typing.{type_of, function_types}
-use Rattle.validate.specs.Segments.{minimum}
+use Rattle.valid.specs.Typing.{type_of, function_types}
+use Rattle.valid.specs.Segments.{minimum}
 use Rattle.instance.specs.Store.{Store, page_limit}
 
 -- the values are of the types of the module's globals, in their order

@@ -2,8 +2,8 @@
 
 ghost use Rattle.std.specs.Prelude.{◌≡◌, ◌+◌, ◌*◌, ◌≤◌, length, All, Some, IfOk};
 ghost use Rattle.syntax.specs.declared.types.ValType.TheVariants.{I32};
-ghost use Rattle.validate.specs.Segments.{ElementFits, DataFits, offset_in};
-ghost use Rattle.validate.specs.Valid.{IsConstant, ValidModule};
+ghost use Rattle.valid.specs.Segments.{ElementFits, DataFits, offset_in};
+ghost use Rattle.valid.specs.Valid.{IsConstant, ValidModule};
 ghost use Rattle.instance.specs.Store.{page_limit};
 ghost use Rattle.instance.specs.Reads.{with_bytes};
 ghost use Rattle.instance.specs.Fresh.{with_element, with_data, fresh_globals, fresh_table, fresh_bytes};
@@ -12,7 +12,7 @@ use crate::memory::Memory;
 use std::alloc::{AllocError, Global};
 use syntax::contents::{Contents, Data, Element};
 use syntax::types::Value;
-use validate::{constant_of, offset_of};
+use valid::{constant_of, offset_of};
 
 /// The globals, with their initial values.
 pub fn first_globals(alloc: Global, contents: &Contents) -> Result<Vec<Value>, AllocError>

@@ -79,7 +79,7 @@ pub use Rattle.syntax.specs.declared.operator.IntCompare.{IntCompare}
 pub use Rattle.syntax.specs.declared.operator.IntUnary.{IntUnary}
 pub use Rattle.syntax.specs.declared.operator.MemArg.{MemArg}
 pub use Rattle.syntax.specs.declared.types.BlockType.{BlockType}
-pub use Rattle.validate.specs.Spread.{KeepsTold, kept_target}
-pub use Rattle.validate.specs.Targets.{AreTables, pc_of}
-pub use Rattle.validate.specs.declared.side_table.SideTable.{SideTable}
-pub use Rattle.validate.specs.declared.side_table.TheConstants.{MAX_TOLD_LABELS}
+pub use Rattle.valid.specs.Spread.{KeepsTold, kept_target}
+pub use Rattle.valid.specs.Targets.{AreTables, pc_of}
+pub use Rattle.valid.specs.declared.side_table.SideTable.{SideTable}
+pub use Rattle.valid.specs.declared.side_table.TheConstants.{MAX_TOLD_LABELS}

@@ -3,7 +3,7 @@ use Rattle.std.specs.Prelude.{ℕ, List, length, take, Option, Some, None}
 use Rattle.syntax.specs.declared.types.Value.{Value}
 use Rattle.syntax.specs.declared.contents.Contents.{Contents}
 use Rattle.syntax.specs.declared.contents.FuncType.{FuncType}
-use Rattle.validate.specs.Typing.{type_of_function}
+use Rattle.valid.specs.Typing.{type_of_function}
 use Rattle.events.specs.declared.ended.Ended.{Ended}
 use Rattle.events.specs.declared.ended.Ending.{Ending}
 use Rattle.events.specs.declared.ended.Ending.TheVariants.{Return, Trap, Depth, Spent}

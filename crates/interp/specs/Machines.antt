@@ -4,8 +4,8 @@ use Rattle.std.specs.Arc.{arc_value}
 use Rattle.limits.specs.declared.TheConstants.{MAX_DEPTH}
 use Rattle.syntax.specs.declared.types.Value.{Value}
 use Rattle.syntax.specs.declared.contents.Contents.{Contents}
-use Rattle.validate.specs.Targets.{AreTables}
-use Rattle.validate.specs.Valid.{ValidModule}
+use Rattle.valid.specs.Targets.{AreTables}
+use Rattle.valid.specs.Valid.{ValidModule}
 use Rattle.instance.specs.Store.{Store}
 use Rattle.reduction.specs.Run.{HostCall}
 use Rattle.interp.specs.declared.machine.Machine.{Machine}

@@ -2,7 +2,7 @@
 
 ghost use Rattle.std.specs.Prelude.{◌≡◌, ◌≤◌, ◌<◌, ◌+◌, ◌^◌, drop, length, IsSome, Some};
 ghost use Rattle.limits.specs.declared.TheConstants.{MAX_BYTES};
-ghost use Rattle.validate.specs.Typing.{type_of_function};
+ghost use Rattle.valid.specs.Typing.{type_of_function};
 ghost use Rattle.reduction.specs.Run.{IsImported, as_operands};
 ghost use Rattle.reduction.specs.Hosting.{Names};
 ghost use Rattle.interp.specs.Slots.Holding.{AreSmall};

@@ -2,7 +2,7 @@
 
 use syntax::contents::Contents;
 use syntax::types::Value;
-use validate::SideTable;
+use valid::SideTable;
 
 /// What a module runs: its contents, and the side tables that its validation wrote.
 #[derive(Clone, Copy)]

@@ -1,12 +1,12 @@
 // What a call from outside asks of its caller.
 
 ghost use Rattle.std.specs.Prelude.{◌≡◌, IsTrue, ◌↔◌};
-ghost use Rattle.validate.specs.Typing.{type_of};
+ghost use Rattle.valid.specs.Typing.{type_of};
 ghost use Rattle.reduction.specs.Configuration.{types_of};
 ghost use Rattle.reduction.specs.Invoking.{TakesArguments};
 
 use syntax::types::{ValType, Value};
-use validate::{Valid, type_of_function};
+use valid::{Valid, type_of_function};
 
 /// Whether a value is of a type.
 fn is_of(value: Value, value_type: ValType) -> bool

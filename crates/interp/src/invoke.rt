@@ -3,8 +3,8 @@
 ghost use Rattle.std.specs.Prelude.{◌≡◌, ◌≤◌, ◌<◌, length, take, None, IfSome};
 ghost use Rattle.reduction.specs.Run.{as_operands};
 ghost use Rattle.events.specs.Bare.{whole};
-ghost use Rattle.validate.specs.Valid.{ValidModule};
-ghost use Rattle.validate.specs.Targets.{AreTables};
+ghost use Rattle.valid.specs.Valid.{ValidModule};
+ghost use Rattle.valid.specs.Targets.{AreTables};
 ghost use Rattle.instance.specs.Storing.{IsStoreOf};
 ghost use Rattle.reduction.specs.Hosting.{Names};
 ghost use Rattle.reduction.specs.Invoking.{TakesArguments, HasNoResults, ReturnsTyped};
@@ -25,7 +25,7 @@ use instance::state::{Instance, State};
 use limits::{MAX_DEPTH, MAX_RESULTS};
 use syntax::contents::Contents;
 use syntax::types::Value;
-use validate::{Valid, type_of_function};
+use valid::{Valid, type_of_function};
 
 /// How many results a function has.
 pub(crate) fn result_count(contents: &Contents, function: u32) -> usize

@@ -1,7 +1,7 @@
 // Values are read from slots and written to them.
 
 ghost use Rattle.std.specs.Prelude.{◌≡◌, ◌≤◌, length, take};
-ghost use Rattle.validate.specs.Segments.{number_in};
+ghost use Rattle.valid.specs.Segments.{number_in};
 ghost use Rattle.instance.specs.Store.{value_of};
 ghost use Rattle.engine.specs.Slots.{number};
 ghost use Rattle.engine.specs.Reading.{IsSmall};

@@ -2,8 +2,8 @@
 
 ghost use Rattle.std.specs.Prelude.{◌≡◌, ℕ, List, ◌+◌, ◌<◌, ◌≤◌, ◌↔◌, IsTrue, length, None, IsSome, IfSome};
 ghost use Rattle.syntax.specs.declared.types.Value.{Value as Argument};
-ghost use Rattle.validate.specs.Valid.{ValidModule};
-ghost use Rattle.validate.specs.Targets.{AreTables};
+ghost use Rattle.valid.specs.Valid.{ValidModule};
+ghost use Rattle.valid.specs.Targets.{AreTables};
 ghost use Rattle.events.specs.declared.ended.BareEnding.TheVariants as bare;
 ghost use Rattle.instance.specs.Store.{Store};
 ghost use Rattle.instance.specs.Storing.{IsStoreOf};
@@ -26,7 +26,7 @@ use instance::state::State;
 use limits::{MAX_DEPTH, MAX_RESULTS};
 use std::marker::PhantomData;
 use syntax::types::Value;
-use validate::type_of_function;
+use valid::type_of_function;
 
 /// A call that is under way, and how many units of fuel it may use until it is paused again.
 #[derive(Clone, Copy)]

@@ -4,7 +4,7 @@ use Rattle.syntax.specs.declared.contents.Contents.{Contents}
 use Rattle.syntax.specs.Binary.{Spells}
 use Rattle.decode.specs.Modules.{SpellsNothing}
 use Rattle.decode.specs.declared.fault.DecodeFault.TheVariants as decoding
-use Rattle.validate.specs.Valid.{ValidModule}
+use Rattle.valid.specs.Valid.{ValidModule}
 use Rattle.validate.specs.Refusals.{Refutes}
 use Rattle.validate.specs.declared.fault.ValidFault.TheVariants as checking
 use Rattle.imports.specs.Linking.{IsLinked, Breaks}

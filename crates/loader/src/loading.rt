@@ -3,14 +3,15 @@
 ghost use Rattle.std.specs.Prelude.{◌≡◌, IfOk, IfErr};
 ghost use Rattle.loader.specs.Loading.{IsAccepted, IsRefused};
 ghost use Rattle.syntax.specs.Binary.{Spells};
-ghost use Rattle.validate.specs.Valid.{ValidModule};
+ghost use Rattle.valid.specs.Valid.{ValidModule};
 
 use crate::refusal::Refusal;
 use decode::{DecodeFault, decode};
 use imports::{Linked, link};
 use std::alloc::Global;
 use syntax::module::Module;
-use validate::{Valid, ValidFault, validate};
+use valid::Valid;
+use validate::{ValidFault, validate};
 
 /// The module that the bytes spell.
 pub fn decoded(alloc: Global, bytes: &[u8]) -> Result<Module, Refusal>

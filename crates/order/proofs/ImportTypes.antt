@@ -3,7 +3,7 @@ use Rattle.order.proofs.Words.{ap, arith, Call, Contents, function_types, FuncTy
 use Rattle.order.proofs.Words.{slice_get, Some, subst, sym, type_of_call, type_of_function, ValType, Value, ℕ, [], ◌∙◌, ◌∷◌, ◌≡◌}
 use Rattle.std.proofs.Common.{◌<◌, ◌++◌, length, map, unwrap_or, zero, suc}
 use Rattle.std.proofs.lemmas.Option.{slice_get-map, get_or_from_slice_get}
-use Rattle.validate.specs.Typing.{type_of}
+use Rattle.valid.specs.Typing.{type_of}
 use Rattle.reduction.specs.Hosting.{TakesParams}
 use Rattle.imports.specs.Linking.{IsKnown}
 use Rattle.order.specs.ImportTypes.{import_type, import_types}

@@ -12,8 +12,8 @@ use Rattle.interp.specs.Slices.{RunIsOver, RunIsPaused}
 use Rattle.order.specs.Slices.{OrderGoesOn}
 use Rattle.order.specs.declared.running.OrderGoing.{OrderGoing}
 use Rattle.order.specs.declared.running.OrderGoing.TheVariants.{Over, Paused as PausedAgain}
-use Rattle.validate.specs.Targets.{AreTables}
-use Rattle.validate.specs.declared.side_table.SideTable.{SideTable}
+use Rattle.valid.specs.Targets.{AreTables}
+use Rattle.valid.specs.declared.side_table.SideTable.{SideTable}
 use Rattle.interp.proofs.Slots.OtherHosts.{came_by}
 use Rattle.order.specs.Work as work
 use Rattle.order.specs.Stopping as stopping

@@ -3,7 +3,7 @@ use Rattle.order.proofs.Words.{ap, AreNamedApart, Call, codes, Computes, Content
 use Rattle.order.proofs.Words.{IsFresh, List, None, Now, Option, OutSet, refl, Returned, RunEnd, slice_get, Some, StartRun, Store, subst, sym, ValidModule}
 use Rattle.order.proofs.Words.{Value, WorkEnd, WorkOrder, ℕ, [], ◌+◌, ◌-◌, ◌∙◌, ◌∷◌, ◌≡◌}
 use Rattle.syntax.specs.declared.contents.ModuleExport.{ModuleExport}
-use Rattle.validate.specs.Valid.{DistinctNames}
+use Rattle.valid.specs.Valid.{DistinctNames}
 use Rattle.reduction.specs.Hosting.{IsDetermined}
 use Rattle.reduction.proofs.OneCall.{one_call}
 use Rattle.order.specs.Uv.Bytes.{copied_in, set_out}

@@ -38,5 +38,5 @@ pub use Rattle.syntax.specs.declared.contents.Import.{Import}
 pub use Rattle.syntax.specs.declared.types.ValType.{ValType}
 pub use Rattle.syntax.specs.declared.types.Value.{Value}
 pub use Rattle.syntax.specs.declared.types.Value.TheVariants.{I32}
-pub use Rattle.validate.specs.Typing.{function_types, HasFunctionType, type_of_function}
-pub use Rattle.validate.specs.Valid.{ValidModule}
+pub use Rattle.valid.specs.Typing.{function_types, HasFunctionType, type_of_function}
+pub use Rattle.valid.specs.Valid.{ValidModule}

@@ -3,7 +3,7 @@
 ghost use Rattle.reduction.specs.Hosting.{Names};
 ghost use Rattle.std.specs.Prelude.{◌≡◌, ◌≢◌, ℕ};
 ghost use Rattle.order.specs.ImportTypes.{import_types};
-ghost use Rattle.validate.specs.Valid.{ValidModule};
+ghost use Rattle.valid.specs.Valid.{ValidModule};
 ghost use Rattle.order.specs.Slices.{SlicesMakeHeadway};
 ghost use Rattle.order.specs.Stopping.{StoppedIsComputed};
 ghost use Rattle.order.specs.Uv.Numbers.{AreNumbers};

@@ -6,7 +6,7 @@ ghost use Rattle.limits.specs.declared.TheConstants.{MAX_DEPTH};
 ghost use Rattle.syntax.specs.declared.types.ValType.TheVariants as valtype;
 ghost use Rattle.syntax.specs.declared.types.Value.{Value as Argument};
 ghost use Rattle.syntax.specs.declared.types.Value.TheVariants as value;
-ghost use Rattle.validate.specs.Typing.{type_of_function};
+ghost use Rattle.valid.specs.Typing.{type_of_function};
 ghost use Rattle.imports.specs.Uv.{type_of_entry};
 ghost use Rattle.imports.specs.declared.entry_point.EntryPoint.TheVariants.{Work};
 ghost use Rattle.instance.specs.Store.{Store};

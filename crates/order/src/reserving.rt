@@ -15,7 +15,7 @@ use interp::machine::Machine;
 use limits::MAX_BYTES;
 use std::alloc::{AllocError, Global};
 use std::sync::Arc;
-use validate::Valid;
+use valid::Valid;
 
 /// Memory was refused. One is made in this module alone, where an allocation was, by functions that see neither the operation nor what is
 /// in the input: so there is no memory for an order only where it was refused.

@@ -6,7 +6,7 @@ ghost use Rattle.limits.specs.declared.TheConstants.{MAX_BYTES, MAX_DEPTH};
 ghost use Rattle.syntax.specs.declared.types.ValType.TheVariants as valtype;
 ghost use Rattle.instance.specs.Fresh.{IsFresh};
 ghost use Rattle.instance.specs.Storing.{IsStoreOf};
-ghost use Rattle.validate.specs.Typing.{type_of_function};
+ghost use Rattle.valid.specs.Typing.{type_of_function};
 ghost use Rattle.events.specs.Bare.{whole, whole_ending};
 ghost use Rattle.reduction.specs.Invoking.{TakesArguments, ReturnsTyped};
 ghost use Rattle.reduction.specs.Running.{end_of_run, AreResults};

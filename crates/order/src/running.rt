@@ -4,11 +4,11 @@ ghost use Rattle.std.specs.Prelude.{◌≡◌, ◌≢◌, ◌+◌, ◌-◌, ◌<
 ghost use Rattle.std.specs.Arc.{arc_value};
 ghost use Rattle.limits.specs.declared.TheConstants.{MAX_BYTES, MAX_DEPTH};
 ghost use Rattle.syntax.specs.declared.types.ValType.TheVariants as valtype;
-ghost use Rattle.validate.specs.Valid.{ValidModule};
+ghost use Rattle.valid.specs.Valid.{ValidModule};
 ghost use Rattle.instance.specs.Storing.{IsStoreOf};
 ghost use Rattle.instance.specs.Stops.{stop_of};
 ghost use Rattle.reduction.specs.Running.{end_of_run, AreResults};
-ghost use Rattle.validate.specs.Typing.{type_of_function};
+ghost use Rattle.valid.specs.Typing.{type_of_function};
 ghost use Rattle.imports.specs.Linking.{ExportsFunction};
 ghost use Rattle.imports.specs.Uv.{type_of_entry};
 ghost use Rattle.imports.specs.declared.entry_point.EntryPoint.TheVariants.{Work};

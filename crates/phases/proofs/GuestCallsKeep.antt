@@ -4,7 +4,7 @@ use Rattle.phases.proofs.Words.{List, map, refl, Requests, Setting, Some, State,
 use Rattle.phases.proofs.Words.{◌∷◌, ◌≡◌, ◌≤◌}
 use Rattle.tallies.specs.Requests.{is_request, times}
 use Rattle.tallies.proofs.Requests.{same_parts, times_push}
-use Rattle.validate.specs.Typing.{type_of}
+use Rattle.valid.specs.Typing.{type_of}
 use Rattle.phases.specs.View.{Opened, Cancelled, Sent}
 use Rattle.phases.specs.Requests.{Cancelled as cancelled}
 use Rattle.phases.specs.Guests.{trace_of}

@@ -11,7 +11,7 @@ use Rattle.std.proofs.Common.{Result, Ok, Err, OnOk, IfErr}
 use Rattle.std.proofs.lemmas.Option.{slice_get-map}
 use Rattle.syntax.specs.declared.contents.FuncType.{FuncType}
 use Rattle.syntax.specs.declared.types.ValType.TheVariants as valtype
-use Rattle.validate.specs.Typing.{type_of_function, type_of, HasFunctionType}
+use Rattle.valid.specs.Typing.{type_of_function, type_of, HasFunctionType}
 use Rattle.handles.specs.Table.{empty_table}
 use Rattle.events.specs.declared.ended.Ending.{Ending}
 use Rattle.events.specs.declared.ended.Ending.TheVariants as ending

@@ -87,6 +87,6 @@ pub use Rattle.syntax.specs.declared.types.ValType.{ValType}
 pub use Rattle.syntax.specs.declared.types.Value.{Value}
 pub use Rattle.syntax.specs.declared.types.Value.TheVariants.{I32}
 pub use Rattle.tallies.proofs.Filtered.{found_kept, Member}
-pub use Rattle.validate.specs.Targets.{AreTables}
-pub use Rattle.validate.specs.Valid.{ValidModule}
-pub use Rattle.validate.specs.declared.side_table.SideTable.{SideTable}
+pub use Rattle.valid.specs.Targets.{AreTables}
+pub use Rattle.valid.specs.Valid.{ValidModule}
+pub use Rattle.valid.specs.declared.side_table.SideTable.{SideTable}

@@ -8,7 +8,7 @@ use Rattle.limits.specs.declared.TheConstants.{MAX_HANDLES, MAX_ASYNCS}
 use Rattle.syntax.specs.declared.types.ValType.{ValType}
 use Rattle.syntax.specs.declared.types.ValType.TheVariants as type
 use Rattle.syntax.specs.declared.contents.Contents.{Contents}
-use Rattle.validate.specs.Typing.{type_of_function}
+use Rattle.valid.specs.Typing.{type_of_function}
 use Rattle.instance.specs.Fresh.{fresh_store}
 use Rattle.handles.specs.declared.handle.Kind.{Kind}
 use Rattle.handles.specs.declared.handle.Kind.TheVariants as kind

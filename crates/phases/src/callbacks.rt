@@ -8,7 +8,7 @@ use instance::state::Instance;
 use std::alloc::{AllocError, Global};
 use syntax::contents::{Contents, FuncType};
 use syntax::types::ValType;
-use validate::type_of_function;
+use valid::type_of_function;
 
 fn takes_one_number(found: &FuncType) -> bool
     ensures { result ≡ takes_one_number found.now.params found.now.results }

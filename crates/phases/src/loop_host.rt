@@ -1,7 +1,7 @@
 // The host of a loop's callbacks.
 
 ghost use Rattle.std.specs.Prelude.{◌≡◌, ◌+◌, Some, map, length};
-ghost use Rattle.validate.specs.Typing.{type_of};
+ghost use Rattle.valid.specs.Typing.{type_of};
 ghost use Rattle.reduction.specs.Hosting.{Answers};
 ghost use Rattle.imports.specs.Uv.{type_of_call};
 ghost use Rattle.handles.specs.Table.{saturated};

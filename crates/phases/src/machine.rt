@@ -37,7 +37,7 @@ use interp::slices::{Paused, Slice};
 use std::alloc::Global;
 use std::sync::Arc;
 use syntax::types::Value;
-use validate::Valid;
+use valid::Valid;
 
 /// What a callback under way runs on: its loop's instance and host, and a machine for calls in slices.
 #[derive(Drop)]

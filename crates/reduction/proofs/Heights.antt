@@ -8,8 +8,8 @@ use Rattle.std.proofs.Math.Nat.{le-max_left, le-max_right}
 use Rattle.limits.specs.declared.TheConstants.{MAX_NESTING}
 use Rattle.syntax.specs.declared.types.ValType.TheVariants as type
 use Rattle.syntax.specs.declared.instruction.Instr.TheVariants.{Nop, Drop, GlobalGet, GlobalSet, Load, LoadNarrow, Store, Const, Eqz, Binary, Compare, Convert}
-use Rattle.validate.specs.Typing.{Context, TakesLeaves, ConversionTurns, InstrTyped}
-use Rattle.validate.specs.Height.{Effect, Changes, Ends, effect_of, after_effect, greatest_height, nesting}
+use Rattle.valid.specs.Typing.{Context, TakesLeaves, ConversionTurns, InstrTyped}
+use Rattle.valid.specs.Height.{Effect, Changes, Ends, effect_of, after_effect, greatest_height, nesting}
 use Rattle.validate.proofs.Checks.{all_there}
 use Rattle.reduction.proofs.Lists.{length-pushed}
 

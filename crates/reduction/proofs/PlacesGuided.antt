@@ -3,8 +3,8 @@ use Rattle.reduction.proofs.Words.{Agrees, ap, arith, Body, ClosesTo, Code, coun
 use Rattle.reduction.proofs.Words.{List, max, opening_bracket, operations_to, Plain, pushed, size, slice_get, Some, Structured, subst, suc, sym, Target, Token}
 use Rattle.reduction.proofs.Words.{Typed, ValType, zero, ℕ, [], ◌+◌, ◌-◌, ◌∙◌, ◌∷◌, ◌≡◌}
 use Rattle.syntax.specs.declared.instruction.Token.TheVariants as op
-use Rattle.validate.specs.Typing.{Context}
-use Rattle.validate.specs.Height.{Effect, Changes, Ends, effect_of, after_effect}
+use Rattle.valid.specs.Typing.{Context}
+use Rattle.valid.specs.Height.{Effect, Changes, Ends, effect_of, after_effect}
 use Rattle.validate.specs.Inner.Writing.{target}
 use Rattle.reduction.proofs.Lists.{length-pushed}
 use Rattle.reduction.proofs.Heights.{Agrees as SameEffect, agrees, arities}

@@ -6,7 +6,7 @@ use Rattle.reduction.proofs.Words.{Over, pc_of, Place, receiving, refl, size, sl
 use Rattle.reduction.proofs.Words.{take, Target, Tells, Token, true, Value, with_locals, zero, ℕ, [], ◌++◌, ◌+◌, ◌==◌, ◌∙◌, ◌∷◌, ◌≡◌}
 use Rattle.reduction.proofs.Contexts.{with_locals-height, with_locals-code}
 use Rattle.syntax.specs.declared.instruction.Token.TheVariants as op
-use Rattle.validate.specs.Targets.{Lists}
+use Rattle.valid.specs.Targets.{Lists}
 use Rattle.instance.specs.Store.{Store as Memory_and_globals}
 use Rattle.reduction.specs.Places.{GoesOn, LeadsOn}
 use Rattle.reduction.proofs.HeightsKept.{tested, called, found}

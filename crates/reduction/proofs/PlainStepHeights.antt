@@ -2,7 +2,7 @@
 use Rattle.reduction.proofs.Words.{ap, arith, Contents, counts, Fails, Instr, Lacks, Leaves, length, length-append, List, plain_step, PlainStep, refl, Value, ℕ}
 use Rattle.reduction.proofs.Words.{◌+◌, ◌∙◌, ◌≡◌}
 use Rattle.std.proofs.lemmas.List.{length-set}
-use Rattle.validate.specs.Height.{Effect, Changes, Ends}
+use Rattle.valid.specs.Height.{Effect, Changes, Ends}
 use Rattle.instance.specs.Store.{Store as Memory_and_globals}
 use Rattle.reduction.proofs.PlainStepView.{LocalsLeft, same_locals, local_set, PlainStepView, plain_step_view}
 

@@ -4,7 +4,7 @@ use Rattle.reduction.proofs.Words.{Computed, computed, Contents, Extension, Loca
 use Rattle.reduction.proofs.Words.{counts, Fails, false, giving, is_some, Leaves, length, loaded, Number, Option, Select, stored, TrapOf, Unsigned, ValType, []}
 use Rattle.reduction.proofs.Words.{Bool, Instr, is_of, Lacks, List, None, refl, Some, true, Unary, Value, ℕ, ◌&&◌, ◌++◌, ◌+◌, ◌∷◌, ◌≡◌}
 use Rattle.syntax.specs.declared.instruction.Instr.TheVariants.{Nop, Drop, GlobalGet, GlobalSet, Load, LoadNarrow, Store, Const, Eqz, Binary, Compare, Convert}
-use Rattle.validate.specs.Height.{Changes}
+use Rattle.valid.specs.Height.{Changes}
 use Rattle.instance.specs.Store.{Store as Memory_and_globals, with_globals, bytes_of, bytes_at, written_at, grown}
 use Rattle.reduction.specs.Operators.{binary, converted}
 use Rattle.reduction.specs.Step.{alike}

@@ -7,7 +7,7 @@ use Rattle.reduction.proofs.Words.{type_of, types_of, Unary, Unreachable, Unsign
 use Rattle.std.specs.Prelude.{IsSome}
 use Rattle.syntax.specs.declared.instruction.Instr.TheVariants.{Nop, Drop, GlobalGet, GlobalSet, Load, LoadNarrow, Store, Const, Eqz, Binary, Compare, Convert}
 use Rattle.syntax.specs.declared.contents.Global.{Global}
-use Rattle.validate.specs.Typing.{Context as Typing, InstrTyped, ConversionTurns}
+use Rattle.valid.specs.Typing.{Context as Typing, InstrTyped, ConversionTurns}
 use Rattle.instance.specs.Store.{Store as Memory_and_globals, bytes_at}
 use Rattle.reduction.proofs.Lists.{typed_at, set_typed, type_of-value_of, is_of-typed}
 

@@ -5,8 +5,8 @@ use Rattle.reduction.proofs.Words.{if◌then◌else◌, Instr, is_some, Label, l
 use Rattle.reduction.proofs.Words.{next, None, on_contexts, operands_of, Option, Plain, plain, plain_step, PlainStep, receiving, refl, Return, returned}
 use Rattle.reduction.proofs.Words.{reverse, same_type, same_valtypes, slice_get, Some, StaysInBlock, Store, Structured, Stuck, suc, take, Traps, true, turned}
 use Rattle.reduction.proofs.Words.{type_of_function, types_of, Value, with_locals, zero, ℕ, [], ◌&&◌, ◌==◌, ◌∙◌, ◌∷◌, ◌≡◌, ◌≤◌}
-use Rattle.validate.specs.Typing.{type_of_block}
-use Rattle.validate.proofs.SameTypes.{same_valtypes-is}
+use Rattle.valid.specs.Typing.{type_of_block}
+use Rattle.valid.proofs.SameTypes.{same_valtypes-is}
 use Rattle.reduction.specs.Step.{takes_topmost, call_typed, call_element, entering, structured}
 use Rattle.reduction.proofs.Lists.{at_least}
 use Rattle.reduction.proofs.PlainStepView.{StoreLeft, same_store, PlainStepLeaves, PlainStepFails, PlainStepView, plain_step_view}

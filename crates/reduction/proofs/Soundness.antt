@@ -8,12 +8,12 @@ use Rattle.reduction.proofs.Words.{Br, I32, I64, If, None, refl, Some, suc, sym,
 use Rattle.reduction.proofs.Contexts.{with_locals-operands, with_locals-code}
 use Rattle.std.proofs.Common.{option_and_then, eq-eqb}
 use Rattle.syntax.specs.declared.types.ValType.TheVariants as type
-use Rattle.validate.specs.Typing.{Context as Typing, InstrTyped, type_of_block}
+use Rattle.valid.specs.Typing.{Context as Typing, InstrTyped, type_of_block}
 use Rattle.instance.specs.Store.{Store as Memory_and_globals}
 use Rattle.reduction.specs.Step.{takes_topmost, call_typed, call_element, entering}
 use Rattle.reduction.specs.Typed.{Under, in_label, in_call, outermost, Configured, Sound}
 use Rattle.reduction.proofs.Lists.{types_of-append, pushed-split, topmost_types, in_order, pushed-last, label_holds, length-pushed}
-use Rattle.validate.proofs.SameTypes.{same_valtypes-is, same_valtypes-of}
+use Rattle.valid.proofs.SameTypes.{same_valtypes-is, same_valtypes-of}
 use Rattle.reduction.proofs.PlainStepsSound.{PlainStepTyped, plain_step_typed, there}
 
 module _ (m : Contents) (answers : List ValType) where

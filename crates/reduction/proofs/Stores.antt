@@ -6,7 +6,7 @@ use Rattle.std.proofs.Common.{◌/◌}
 use Rattle.std.proofs.Math.Nat.{mul-div_cancel}
 use Rattle.std.proofs.lemmas.List.{length-replicate}
 use Rattle.limits.specs.declared.TheConstants.{PAGE_SIZE}
-use Rattle.validate.specs.Segments.{minimum}
+use Rattle.valid.specs.Segments.{minimum}
 use Rattle.instance.specs.Store.{Store as Stored, page_limit, pages, grown, written_at}
 use Rattle.instance.specs.Storing.{NamesFunction, HasPages}
 use Rattle.reduction.proofs.Lists.{at_least}

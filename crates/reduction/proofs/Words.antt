@@ -43,10 +43,10 @@ pub use Rattle.syntax.specs.declared.types.ValType.{ValType}
 pub use Rattle.syntax.specs.declared.types.Value.{Value}
 pub use Rattle.syntax.specs.declared.types.Value.TheVariants.{I32, I64}
 pub use Rattle.validate.proofs.Tables.{length-operations}
-pub use Rattle.validate.specs.SameTypes.{same_type, same_valtypes}
-pub use Rattle.validate.specs.Segments.{number_in}
-pub use Rattle.validate.specs.Stack.{pushed}
-pub use Rattle.validate.specs.Targets.{Agrees, pc_of, size, Tells}
-pub use Rattle.validate.specs.Typing.{bytes_of_type, bytes_of_width, function_types, HasFunctionType, inside, label_types, type_of, type_of_function, Typed}
-pub use Rattle.validate.specs.Valid.{body_context, ValidFunc, ValidModule}
-pub use Rattle.validate.specs.declared.side_table.Target.{Target}
+pub use Rattle.valid.specs.SameTypes.{same_type, same_valtypes}
+pub use Rattle.valid.specs.Segments.{number_in}
+pub use Rattle.valid.specs.Stack.{pushed}
+pub use Rattle.valid.specs.Targets.{Agrees, pc_of, size, Tells}
+pub use Rattle.valid.specs.Typing.{bytes_of_type, bytes_of_width, function_types, HasFunctionType, inside, label_types, type_of, type_of_function, Typed}
+pub use Rattle.valid.specs.Valid.{body_context, ValidFunc, ValidModule}
+pub use Rattle.valid.specs.declared.side_table.Target.{Target}

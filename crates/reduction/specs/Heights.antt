@@ -9,8 +9,8 @@ use Rattle.syntax.specs.declared.instruction.Instr.TheVariants.{Load, LoadNarrow
 use Rattle.syntax.specs.declared.contents.Contents.{Contents}
 use Rattle.syntax.specs.declared.contents.FuncType.{FuncType}
 use Rattle.syntax.specs.Code.{Code, Done, Plain, Structured, If}
-use Rattle.validate.specs.Typing.{Context as Typing, label_types, type_of_block}
-use Rattle.validate.specs.Height.{Effect, Changes, Ends, named, calls, effect_of}
+use Rattle.valid.specs.Typing.{Context as Typing, label_types, type_of_block}
+use Rattle.valid.specs.Height.{Effect, Changes, Ends, named, calls, effect_of}
 use Rattle.reduction.specs.Configuration.{Context, Label, Frame}
 use Rattle.reduction.specs.Typed.{code_left, operands_of}
 

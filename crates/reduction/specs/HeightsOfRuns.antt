@@ -6,7 +6,7 @@ use Rattle.syntax.specs.declared.contents.Contents.{Contents}
 use Rattle.syntax.specs.declared.contents.FuncType.{FuncType}
 use Rattle.syntax.specs.declared.contents.Func.{Func}
 use Rattle.instance.specs.Store.{Store, with_memory}
-use Rattle.validate.specs.Typing.{type_of_function}
+use Rattle.valid.specs.Typing.{type_of_function}
 use Rattle.reduction.specs.Configuration.{Context, Label, Frame, entered, frames, receiving, types_of}
 use Rattle.reduction.specs.Step.{Goes, Calls, next}
 use Rattle.reduction.specs.Run.{HostCall, as_operands, IsDefined, IsImported}

@@ -4,8 +4,8 @@ use Rattle.std.specs.Prelude.{◌≡◌, ℕ, ◌≤◌, List, [], length}
 use Rattle.syntax.specs.declared.types.ValType.{ValType}
 use Rattle.syntax.specs.declared.contents.Contents.{Contents}
 use Rattle.syntax.specs.declared.contents.FuncType.{FuncType}
-use Rattle.validate.specs.Stack.{pushed}
-use Rattle.validate.specs.Typing.{HasFunctionType}
+use Rattle.valid.specs.Stack.{pushed}
+use Rattle.valid.specs.Typing.{HasFunctionType}
 use Rattle.reduction.specs.Configuration.{Context, frames, types_of}
 use Rattle.reduction.specs.Step.{Move, Goes, Traps, Calls, Ends, Stuck}
 use Rattle.reduction.specs.Typed.{Awaits, Configured}

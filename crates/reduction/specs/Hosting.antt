@@ -3,8 +3,8 @@ use Rattle.std.specs.Prelude.{◌≡◌, ℕ, List, [], map, Option, Some, None,
 use Rattle.syntax.specs.declared.types.Value.{Value}
 use Rattle.syntax.specs.declared.contents.FuncType.{FuncType}
 use Rattle.syntax.specs.declared.contents.Contents.{Contents}
-use Rattle.validate.specs.Stack.{pushed}
-use Rattle.validate.specs.Typing.{type_of, type_of_function}
+use Rattle.valid.specs.Stack.{pushed}
+use Rattle.valid.specs.Typing.{type_of, type_of_function}
 use Rattle.reduction.specs.Run.{HostCall, IsImported, as_operands}
 use Rattle.reduction.specs.StepByStep.{StepByStep}
 

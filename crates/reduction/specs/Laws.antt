@@ -11,10 +11,10 @@ use Rattle.syntax.specs.declared.instruction.Token.{Token}
 use Rattle.syntax.specs.declared.instruction.Token.TheVariants as op
 use Rattle.syntax.specs.declared.instruction.Instr.TheVariants as instr
 use Rattle.syntax.specs.Code.{Code, operations}
-use Rattle.validate.specs.declared.side_table.Target.{Target}
-use Rattle.validate.specs.Stack.{pushed}
-use Rattle.validate.specs.Typing.{type_of_function}
-use Rattle.validate.specs.Valid.{ValidModule}
+use Rattle.valid.specs.declared.side_table.Target.{Target}
+use Rattle.valid.specs.Stack.{pushed}
+use Rattle.valid.specs.Typing.{type_of_function}
+use Rattle.valid.specs.Valid.{ValidModule}
 use Rattle.instance.specs.Store.{Store}
 use Rattle.instance.specs.Storing.{HaveGlobalTypes}
 use Rattle.instance.specs.declared.stack.Site.{Site}

@@ -6,8 +6,8 @@ use Rattle.syntax.specs.declared.types.Value.{Value}
 use Rattle.syntax.specs.declared.contents.Contents.{Contents}
 use Rattle.syntax.specs.declared.contents.FuncType.{FuncType}
 use Rattle.syntax.specs.Code.{Code, Done}
-use Rattle.validate.specs.Stack.{pushed}
-use Rattle.validate.specs.Typing.{Context as Typing, inside, Typed, HasFunctionType}
+use Rattle.valid.specs.Stack.{pushed}
+use Rattle.valid.specs.Typing.{Context as Typing, inside, Typed, HasFunctionType}
 use Rattle.instance.specs.Storing.{HaveGlobalTypes}
 use Rattle.reduction.specs.Configuration.{Context, Label, Frame, types_of}
 use Rattle.reduction.specs.Step.{Move, Goes, Traps, Calls, Ends, Stuck}

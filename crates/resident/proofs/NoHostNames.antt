@@ -6,8 +6,8 @@ use Rattle.std.specs.Option.{option_map}
 use Rattle.std.proofs.lemmas.Option.{slice_get-map, slice_get_within, slice_get-get_or, get_or_from_slice_get}
 use Rattle.syntax.specs.declared.contents.Func.{Func}
 use Rattle.syntax.specs.declared.contents.Import.{Import}
-use Rattle.validate.specs.Valid.{ValidModule, ValidImport}
-use Rattle.validate.specs.Typing.{function_types}
+use Rattle.valid.specs.Valid.{ValidModule, ValidImport}
+use Rattle.valid.specs.Typing.{function_types}
 use Rattle.resident.specs.NoHost.{empty_type, type_of_import, types_of_imports}
 
 -- an element of the front

@@ -5,8 +5,8 @@ use Rattle.std.proofs.Common.{[], ◌∷◌, length, Option, sym}
 use Rattle.std.specs.Prelude.{slice_get, option_and_then}
 use Rattle.std.proofs.lemmas.Option.{get_or_from_slice_get, slice_get_within}
 use Rattle.limits.specs.declared.TheConstants.{MAX_RESULTS}
-use Rattle.validate.specs.Typing.{function_types}
-use Rattle.validate.specs.Valid.{ValidModule}
+use Rattle.valid.specs.Typing.{function_types}
+use Rattle.valid.specs.Valid.{ValidModule}
 use Rattle.reduction.specs.Invoking.{ReturnsTyped}
 use Rattle.reduction.specs.Leading.{Leads, calling, scene}
 use Rattle.resident.specs.Calls.{AllRefused}

@@ -18,5 +18,5 @@ pub use Rattle.std.specs.Prelude.{IfSome, slice_get}
 pub use Rattle.syntax.specs.declared.contents.Contents.{Contents}
 pub use Rattle.syntax.specs.declared.contents.FuncType.{FuncType}
 pub use Rattle.syntax.specs.declared.types.Value.{Value}
-pub use Rattle.validate.specs.Typing.{HasFunctionType, type_of_function}
-pub use Rattle.validate.specs.declared.side_table.SideTable.{SideTable}
+pub use Rattle.valid.specs.Typing.{HasFunctionType, type_of_function}
+pub use Rattle.valid.specs.declared.side_table.SideTable.{SideTable}

@@ -4,7 +4,7 @@ use Rattle.std.specs.Prelude.{nat_le, if◌then◌else◌}
 use Rattle.std.proofs.lemmas.Grind.{common_steps}
 use Rattle.std.proofs.lemmas.List.{length-take-le}
 use Rattle.syntax.specs.declared.contents.Contents.{Contents}
-use Rattle.validate.specs.Segments.{minimum}
+use Rattle.valid.specs.Segments.{minimum}
 use Rattle.instance.specs.Store.{Store, MemoryInstance, memory_of, with_memory_instance}
 use Rattle.instance.specs.Reads.{Wrote, WritesAt}
 use Rattle.instance.specs.Storing.{IsStoreOf, HasPages}

@@ -4,7 +4,7 @@ use Rattle.syntax.specs.Loaded.{Loaded}
 use Rattle.syntax.specs.Exporting.{IsFirst}
 use Rattle.syntax.specs.declared.contents.Contents.{Contents}
 use Rattle.syntax.specs.declared.contents.FuncType.{FuncType}
-use Rattle.validate.specs.Typing.{HasFunctionType}
+use Rattle.valid.specs.Typing.{HasFunctionType}
 use Rattle.syntax.specs.declared.contents.ExternKind.TheVariants.{Func, Global}
 use Rattle.syntax.specs.declared.export.Export.{Export}
 use Rattle.syntax.specs.declared.types.Value.{Value}

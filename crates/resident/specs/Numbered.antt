@@ -4,7 +4,7 @@ use Rattle.syntax.specs.declared.contents.Contents.{Contents}
 use Rattle.syntax.specs.declared.contents.FuncType.{FuncType}
 use Rattle.syntax.specs.declared.contents.ModuleExport.{ModuleExport}
 use Rattle.syntax.specs.declared.contents.ExternKind.TheVariants.{Func}
-use Rattle.validate.specs.Typing.{HasFunctionType}
+use Rattle.valid.specs.Typing.{HasFunctionType}
 use Rattle.resident.specs.Calls.{ExportsFirst}
 
 -- there is no function of this index

@@ -2,7 +2,7 @@
 use Rattle.std.specs.Prelude.{◌≡◌, ℕ, List, Option, Some, None}
 use Rattle.syntax.specs.Loaded.{Loaded}
 use Rattle.syntax.specs.declared.types.Value.{Value}
-use Rattle.validate.specs.declared.side_table.SideTable.{SideTable}
+use Rattle.valid.specs.declared.side_table.SideTable.{SideTable}
 use Rattle.instance.specs.Store.{Store}
 use Rattle.instance.specs.declared.stack.Caller.{Caller}
 use Rattle.reduction.specs.Run.{HostCall, IsImported}

@@ -29,7 +29,7 @@ use limits::MAX_DEPTH;
 use std::alloc::Global;
 use std::marker::Model;
 use syntax::types::Value;
-use validate::Valid;
+use valid::Valid;
 
 /// A call of an instance under way, between two slices, with the instance. It may be kept, given to another thread, or dropped at any
 /// time. An import is asked in the first slice.

@@ -2,7 +2,7 @@
 
 ghost use Rattle.std.specs.Prelude.{IfSome, MatchOption};
 ghost use Rattle.syntax.specs.Exporting.{IsFirst, IsFirstPlace};
-ghost use Rattle.validate.specs.Typing.{HasFunctionType};
+ghost use Rattle.valid.specs.Typing.{HasFunctionType};
 ghost use Rattle.resident.specs.Calls.{ExportsFirst, ExportsNoFunction, ExportsGlobal, ExportsNoGlobal};
 ghost use Rattle.resident.specs.Numbered.{HasNoType, ExportsAt, ExportsNoFunctionAt, NumbersExport};
 
@@ -11,7 +11,7 @@ use syntax::contents::{ExternKind, FuncType};
 use syntax::export::Export;
 use syntax::module::Module;
 use syntax::types::Value;
-use validate::{Valid, type_of_function};
+use valid::{Valid, type_of_function};
 
 /// The first export with this name.
 pub(crate) fn export(module: &Module, name: &[u8]) -> Option<Export>

@@ -1,8 +1,8 @@
 // A host that answers every import with -1.
 
 ghost use Rattle.std.specs.Prelude.{◌≡◌, ◌≤◌, [], length, map, slice_get};
-ghost use Rattle.validate.specs.Stack.{pushed};
-ghost use Rattle.validate.specs.Typing.{type_of};
+ghost use Rattle.valid.specs.Stack.{pushed};
+ghost use Rattle.valid.specs.Typing.{type_of};
 ghost use Rattle.reduction.specs.Run.{as_operands, IsImported};
 ghost use Rattle.reduction.specs.Hosting.{Names, Answers};
 ghost use Rattle.resident.specs.NoHost.{IsMinusOne, types_of_imports};
@@ -10,7 +10,7 @@ ghost use Rattle.resident.specs.NoHost.{IsMinusOne, types_of_imports};
 use instance::memory::Memory;
 use interp::host::{Args, Host};
 use syntax::types::{ValType, Value};
-use validate::{Valid, type_at};
+use valid::{Valid, type_at};
 
 /// A host that answers every import of a module with -1, in the type of its result.
 #[derive(Drop)]

@@ -3,7 +3,7 @@
 ghost use Rattle.std.specs.Prelude.{◌≡◌, ◌≤◌, ◌↔◌, length, true, false, Some, None, IfOk, IfSome, IsTrue, MatchOption};
 ghost use Rattle.std.specs.Arc.{arc_value};
 ghost use Rattle.limits.specs.declared.TheConstants.{MAX_DEPTH, MAX_RESULTS};
-ghost use Rattle.validate.specs.Typing.{HasFunctionType};
+ghost use Rattle.valid.specs.Typing.{HasFunctionType};
 ghost use Rattle.instance.specs.Store.{bytes_at, memory_of, with_memory_instance};
 ghost use Rattle.instance.specs.Reads.{WritesAt};
 ghost use Rattle.instance.specs.Fresh.{IsFresh};
@@ -36,7 +36,7 @@ use std::marker::Model;
 use std::sync::Arc;
 use syntax::contents::FuncType;
 use syntax::types::Value;
-use validate::{Valid, type_of_function};
+use valid::{Valid, type_of_function};
 
 /// An instance of a module that is kept from call to call, with its module. Every import answers -1.
 #[derive(Drop)]

@@ -3,7 +3,7 @@ use Rattle.std.proofs.Common.{◌≡◌, ℕ, List, map, string_bytes}
 use Rattle.syntax.specs.declared.types.Value.{Value}
 use Rattle.syntax.specs.declared.contents.Contents.{Contents}
 use Rattle.syntax.specs.declared.contents.FuncType.{FuncType}
-use Rattle.validate.specs.Typing.{HasFunctionType, type_of}
+use Rattle.valid.specs.Typing.{HasFunctionType, type_of}
 use Rattle.reduction.specs.Invoking.{TakesArguments}
 use Rattle.words.specs.declared.command.Invocation.{Invocation}
 use Rattle.running.specs.declared.calling.Called.{Called}

@@ -6,7 +6,7 @@ use Rattle.std.proofs.lemmas.List.{map-append}
 use Rattle.std.proofs.Math.Seq.{take-suc}
 use Rattle.syntax.specs.declared.types.ValType.{ValType}
 use Rattle.syntax.specs.declared.types.Value.{Value}
-use Rattle.validate.specs.Typing.{type_of}
+use Rattle.valid.specs.Typing.{type_of}
 use Rattle.running.specs.Arguments.{SpellsValue, AllSpell}
 
 spell_one_more : (texts : List (List ℕ)) (values : List Value) (text : List ℕ) (value : Value)

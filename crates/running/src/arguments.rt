@@ -1,7 +1,7 @@
 // The arguments of a call, from words of the command line.
 
 ghost use Rattle.std.specs.Prelude.{◌≡◌, map, string_bytes, IfOk, IfSome};
-ghost use Rattle.validate.specs.Typing.{type_of};
+ghost use Rattle.valid.specs.Typing.{type_of};
 ghost use Rattle.running.specs.Arguments.{SpellsValue, AllSpell};
 
 use crate::failure::Failure;

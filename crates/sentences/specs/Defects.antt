@@ -21,8 +21,8 @@ use Rattle.syntax.specs.declared.contents.Data.{Data}
 use Rattle.syntax.specs.declared.contents.ExternKind.{ExternKind}
 use Rattle.syntax.specs.declared.contents.ExternKind.TheVariants as extern
 use Rattle.syntax.specs.Code.{operations}
-use Rattle.validate.specs.Typing.{bytes_of_type, bytes_of_width, type_of_function}
-use Rattle.validate.specs.Valid.{IsConstant}
+use Rattle.valid.specs.Typing.{bytes_of_type, bytes_of_width, type_of_function}
+use Rattle.valid.specs.Valid.{IsConstant}
 use Rattle.validate.specs.declared.site.InvalidPart.{InvalidPart}
 use Rattle.validate.specs.declared.site.InvalidPart.TheVariants as site
 use Rattle.sentences.specs.declared.defect.IndexSpace.{IndexSpace}

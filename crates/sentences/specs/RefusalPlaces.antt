@@ -6,7 +6,7 @@ use Rattle.syntax.specs.declared.contents.ModuleExport.{ModuleExport}
 use Rattle.syntax.specs.Binary.{Spells}
 use Rattle.decode.specs.Modules.{SpellsNothing}
 use Rattle.decode.specs.declared.fault.DecodeFault.TheVariants as decoding
-use Rattle.validate.specs.Valid.{ValidModule}
+use Rattle.valid.specs.Valid.{ValidModule}
 use Rattle.validate.specs.Sites.{BreaksAt}
 use Rattle.validate.specs.declared.site.InvalidPart.{InvalidPart}
 use Rattle.validate.specs.declared.site.InvalidPart.TheVariants as site

@@ -2,8 +2,8 @@
 
 ghost use Rattle.std.specs.Prelude.{◌≡◌, ◌<◌, length, IfOk, IfSome, IsTrue};
 ghost use Rattle.syntax.specs.declared.types.ValType.TheVariants.{I32};
-ghost use Rattle.validate.specs.Typing.{type_of};
-ghost use Rattle.validate.specs.Valid.{IsConstant};
+ghost use Rattle.valid.specs.Typing.{type_of};
+ghost use Rattle.valid.specs.Valid.{IsConstant};
 ghost use Rattle.sentences.specs.declared.defect.Defect.TheVariants as defect;
 ghost use Rattle.sentences.specs.Defects.{EntryNames, HaveOneName, IsDefectOfSection, section_of_entry, space_of_extern};
 
@@ -17,7 +17,7 @@ use syntax::contents::{Contents, ExternKind, FuncType};
 use syntax::initializer::Initializer;
 use syntax::module::Module;
 use syntax::types::{ValType, Value};
-use validate::{type_at, type_of_function};
+use valid::{type_at, type_of_function};
 
 /// The id of the section of the start function (WebAssembly Core 1.0, 5.5.2).
 const START: u8 = 8;

@@ -5,7 +5,7 @@ ghost use Rattle.syntax.specs.Binary.{Spells};
 ghost use Rattle.decode.specs.Modules.{SpellsNothing};
 ghost use Rattle.decode.specs.declared.fault.DecodeFault.TheVariants as decoding;
 ghost use Rattle.validate.specs.Sites.{BreaksAt};
-ghost use Rattle.validate.specs.Valid.{ValidModule};
+ghost use Rattle.valid.specs.Valid.{ValidModule};
 ghost use Rattle.places.specs.Places.{IsPlaceOfImport};
 
 use decode::{DecodeFault, MalformedAt};
@@ -16,7 +16,8 @@ use std::fmt::{self, Write};
 use std::io::{self, ErrorKind};
 use std::str;
 use syntax::module::Module;
-use validate::{InvalidAt, Valid, ValidFault};
+use valid::Valid;
+use validate::{InvalidAt, ValidFault};
 
 /// Memory for a text was refused. One is made in this module alone, where an allocation was, or where a module that is read again says so.
 #[derive(Drop)]

@@ -4,7 +4,7 @@ ghost use Rattle.std.specs.Prelude.{◌≡◌, ◌≤◌, ◌<◌, ◌+◌, ◌^
 ghost use Rattle.sentences.specs.declared.defect.Defect.TheVariants as defect;
 ghost use Rattle.sentences.specs.Defects.{Accesses, BlockNames, InstrNames, IsDefectOfBody, IsDefectOfOperation, IsPast, OperationNames};
 ghost use Rattle.sentences.specs.Defects.{open_before, open_behind};
-ghost use Rattle.validate.specs.Typing.{bytes_of_type, bytes_of_width};
+ghost use Rattle.valid.specs.Typing.{bytes_of_type, bytes_of_width};
 
 use crate::defect::{Dangling, Defect, IndexSpace};
 use crate::spaces::{count_in_function, dangling};

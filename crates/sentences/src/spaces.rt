@@ -5,7 +5,7 @@ ghost use Rattle.sentences.specs.Defects.{count_in_module, count_in_function, pa
 
 use crate::defect::{Dangling, IndexSpace};
 use syntax::contents::{Contents, Func};
-use validate::type_at;
+use valid::type_at;
 
 /// An index of this space, if it names none of so many things.
 pub fn dangling(space: IndexSpace, index: u32, count: usize) -> Option<Dangling>

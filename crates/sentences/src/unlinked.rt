@@ -16,7 +16,7 @@ use std::alloc::Global;
 use syntax::contents::{Contents, ExternKind, FuncType, Import, ModuleExport};
 use syntax::initializer::Initializer;
 use syntax::types::Value;
-use validate::{type_at, type_of_function};
+use valid::{type_at, type_of_function};
 
 /// The functions that can be imported.
 fn offered(alloc: Global) -> Result<String, RefusedText> {

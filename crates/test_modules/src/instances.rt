@@ -12,7 +12,7 @@ use std::process::Abort;
 use std::test::Fail;
 use syntax::types::{Limits, Value};
 use test_fixtures::{module_of, valid_of};
-use validate::Valid;
+use valid::Valid;
 
 /// What is done with an instance.
 #[derive(Clone, Copy)]

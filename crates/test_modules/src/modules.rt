@@ -8,7 +8,8 @@ use std::fmt::Display;
 use std::test::Fail;
 use syntax::module::Module;
 use test_fixtures::{bytes_of, module_of};
-use validate::{Valid, validate};
+use valid::Valid;
+use validate::validate;
 
 /// A number below 2^28 in its shortest spelling.
 fn push_number(bytes: &mut Vec<u8>, number: usize) -> Result<(), AllocError> {

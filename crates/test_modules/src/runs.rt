@@ -16,7 +16,7 @@ use std::process::Abort;
 use std::test::Fail;
 use syntax::types::Value;
 use test_fixtures::{bytes_of, module_of, valid_of};
-use validate::Valid;
+use valid::Valid;
 
 /// One function, from nothing to an i32.
 const TO_I32: &str = "0105016000017f 03020100";

@@ -6,14 +6,14 @@ use Rattle.validate.proofs.Words.{IfSome, Import, Indexes, inr, inside, Instr, I
 use Rattle.validate.proofs.Words.{ap, Br, BrIf, Call, Code, Done, Func, If, Kept, List, Load, None, refl, Rule, Some, Store, sym, Typed, ℕ, [], ◌≡◌, ◌⊎◌}
 use Rattle.syntax.specs.declared.instruction.Instr.TheVariants.{CallIndirect}
 use Rattle.validate.specs.declared.fault.ValidFault.TheVariants as fault
-use Rattle.validate.specs.Typing.{HasFunctionType}
+use Rattle.valid.specs.Typing.{HasFunctionType}
 use Rattle.validate.specs.Rules.{NamesAll, IsAligned, SetsVariables, Keeps}
 use Rattle.validate.specs.Sites.{BreaksAt}
 use Rattle.validate.specs.declared.site.InvalidAt.{InvalidAt}
 use Rattle.validate.proofs.Refused.{refutes_at}
 use Rattle.std.specs.Prelude.{Result, Ok, Err, OnOk, IfErr, MatchOption}
 use Rattle.std.specs.Result.{result_err}
-use Rattle.validate.proofs.Items.{same_some}
+use Rattle.valid.proofs.Items.{same_some}
 
 names_all : (c : Context) (i : Instr) (before after : List ValType) → InstrTyped c i before after → NamesAll c i
 names_all c (Call f) before after t = rw t.1.1 (rw t.1.2 refl)

@@ -1,6 +1,6 @@
 -- Operands that are taken and left, and the types that they stand for.
 use Rattle.validate.proofs.Words.{ap, arith, Bool, drop, drop_all, drop_at, Enclosing, false, FitsList, Held, held_around, held_of, Known, length, length-drop}
-use Rattle.validate.proofs.Words.{length-map, List, map, Matches, Operand, pushed, refl, sym, take, take-append-drop, take_all, take_at, Takes, TakesLeaves}
+use Rattle.validate.proofs.Words.{Exchanges, length-map, List, map, Matches, Operand, pushed, refl, sym, take, take-append-drop, take_all, take_at, Takes}
 use Rattle.validate.proofs.Words.{true, ValType, with_left, ℕ, [], ◌++◌, ◌+◌, ◌-◌, ◌∙◌, ◌∷◌, ◌≡◌, ◌≤◌}
 use Rattle.std.proofs.Common.{reverse, ◌↔◌}
 use Rattle.std.proofs.lemmas.List.{reverse-append, length-reverse, nil_from_length}
@@ -84,7 +84,7 @@ pub fits_more : (u : Bool) (left : List ValType) (own : List Operand) (ts : List
 fits_more u [] own ts f = f
 fits_more u (t ∷ left) own ts f = fits_more u left (Known t ∷ own) (t ∷ ts) (put_top u (Known t) t own ts refl f)
 
-pub turns : (taken left : List ValType) (h i : Held) → Takes taken h i → TakesLeaves taken left h (with_left left i)
+pub turns : (taken left : List ValType) (h i : Held) → Takes taken h i → Exchanges taken left h (with_left left i)
 turns taken left h i a = record {
   below = a.below;
   reach = a.reach;

@@ -6,7 +6,7 @@ use Rattle.syntax.specs.declared.instruction.Instr.TheVariants as instr
 use Rattle.syntax.specs.declared.instruction.Token.TheVariants as op
 use Rattle.validate.specs.declared.fault.BodyFault.TheVariants as fault
 use Rattle.validate.specs.Inner.Operands.{Lacks}
-use Rattle.validate.proofs.Items.{same_some}
+use Rattle.valid.proofs.Items.{same_some}
 use Rattle.validate.proofs.OperandTypes.{pushed-push, pushed-append, takes_none}
 use Rattle.validate.proofs.Checks.{IsTurn}
 

@@ -5,7 +5,7 @@ use Rattle.validate.proofs.Words.{type_of, Typed, ValType, [], ◌++◌, ◌∙�
 use Rattle.syntax.specs.declared.operator.Conversion.{Conversion}
 use Rattle.syntax.specs.declared.operator.Conversion.TheVariants.{I32WrapI64, I64ExtendI32S, I64ExtendI32U}
 use Rattle.syntax.specs.declared.instruction.Instr.TheVariants.{Unreachable, Nop, Return, CallIndirect, Drop, Select, Eqz, Unary, Binary, Compare, Convert}
-use Rattle.validate.specs.Typing.{TakesLeaves, ConversionTurns}
+use Rattle.valid.specs.Typing.{TakesLeaves, ConversionTurns}
 use Rattle.validate.specs.Sequences.{joined}
 
 pushed-over : (xs stack more : List ValType) → pushed xs (stack ++ more) ≡ pushed xs stack ++ more

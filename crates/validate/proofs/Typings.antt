@@ -5,7 +5,7 @@ use Rattle.validate.proofs.Words.{Plain, pushed, refl, Scope, Some, Structured, 
 use Rattle.validate.proofs.Words.{◌++◌, ◌∙◌, ◌∷◌, ◌≡◌}
 use Rattle.syntax.specs.declared.instruction.Token.TheVariants as op
 use Rattle.validate.specs.Inner.Rejecting.{MayBegin, MayFollow}
-use Rattle.validate.proofs.Items.{same_some}
+use Rattle.valid.proofs.Items.{same_some}
 use Rattle.validate.proofs.OperandTypes.{fits_more, pushed-push}
 use Rattle.validate.proofs.Opens.{Open, open_of, flat_of, loops, label_is, shape_in, returned}
 use Rattle.validate.proofs.Blocks.{Begun, begun, around-begun}

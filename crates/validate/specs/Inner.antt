@@ -1,9 +1,8 @@
--- No public clause reaches these: the checker, its frames, the table that it writes and how that is kept.
+-- No public clause reaches these: the checker, its frames, and the table that it writes.
 pub mod Brackets
 pub mod Checking
 pub mod Frames
 pub mod Operands
-pub mod Packing
 pub mod Placing
 pub mod Rejecting
 pub mod Room

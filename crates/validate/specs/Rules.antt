@@ -8,8 +8,8 @@ use Rattle.syntax.specs.declared.instruction.Instr.TheVariants.{MemoryGrow}
 use Rattle.syntax.specs.declared.contents.Global.{Global}
 use Rattle.syntax.specs.declared.contents.Mutability.TheVariants.{Var}
 use Rattle.syntax.specs.Code.{Code, Done, Plain, Structured, If}
-use Rattle.validate.specs.Typing.{Context, inside, label_types, type_of_block, bytes_of_type, bytes_of_width, type_of_function}
-use Rattle.validate.specs.Height.{shape_of}
+use Rattle.valid.specs.Typing.{Context, inside, label_types, type_of_block, bytes_of_type, bytes_of_width, type_of_function}
+use Rattle.valid.specs.Height.{shape_of}
 
 -- each index of a type, function, table, memory, global or local names something
 abbrev pub NamesAll : Context → Instr → Type 0

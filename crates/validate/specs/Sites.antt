@@ -14,8 +14,8 @@ use Rattle.validate.specs.declared.fault.ValidFault.TheVariants.{Memory}
 use Rattle.validate.specs.declared.site.InvalidPart.{InvalidPart}
 use Rattle.validate.specs.declared.site.InvalidPart.TheVariants as site
 use Rattle.validate.specs.Faults.{fault_of}
-use Rattle.validate.specs.Typing.{type_of_function}
-use Rattle.validate.specs.Valid.{IsConstant, NamesExtern, DistinctNames}
+use Rattle.valid.specs.Typing.{type_of_function}
+use Rattle.valid.specs.Valid.{IsConstant, NamesExtern, DistinctNames}
 use Rattle.validate.specs.Refusals.{HasFew, HasStart, ElementNames, DataNames, RefutesFunc}
 
 -- The section with this id breaks the rule of the fault. The ids are those of WebAssembly Core 1.0, 5.5.2: 1 types, 2 imports,

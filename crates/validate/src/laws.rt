@@ -4,7 +4,7 @@ ghost use Rattle.std.specs.Prelude.{List, ◌++◌};
 ghost use Rattle.syntax.specs.Code.{Code};
 ghost use Rattle.syntax.specs.declared.types.ValType.{ValType};
 ghost use Rattle.syntax.specs.declared.instruction.Instr.{Instr};
-ghost use Rattle.validate.specs.Typing.{Context, InstrTyped, Typed};
+ghost use Rattle.valid.specs.Typing.{Context, InstrTyped, Typed};
 ghost use Rattle.validate.specs.Sequences.{joined};
 
 /// A law, with nothing to run: framing. What takes a stack of some types to one of others does so over any further

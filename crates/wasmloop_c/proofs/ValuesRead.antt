@@ -3,7 +3,7 @@ use Rattle.wasmloop_c.proofs.Names.{ap, Bool, Contents, false, FuncType, length,
 use Rattle.wasmloop_c.proofs.Names.{◌+◌, ◌<◌, ◌^◌, ◌∙◌, ◌∷◌, ◌≡◌}
 use Rattle.std.proofs.Common.{◌≢◌, zero, suc, add-one}
 use Rattle.std.specs.Prelude.{slice_get, nat_lt, if◌then◌else◌}
-use Rattle.validate.specs.Typing.{HasFunctionType, type_of}
+use Rattle.valid.specs.Typing.{HasFunctionType, type_of}
 use Rattle.reduction.specs.Invoking.{TakesArguments}
 use Rattle.std.proofs.lemmas.Option.{get_or_from_slice_get}
 use Rattle.std.proofs.Math.Seq.{take-suc}

@@ -2,7 +2,7 @@
 use Rattle.std.specs.Prelude.{◌≡◌, ◌<◌, ◌⊎◌, ℕ, List, length, Option, Some, None, IsSomeAnd}
 use Rattle.syntax.specs.declared.contents.FuncType.{FuncType}
 use Rattle.syntax.specs.declared.types.Value.{Value}
-use Rattle.validate.specs.Typing.{HasFunctionType}
+use Rattle.valid.specs.Typing.{HasFunctionType}
 use Rattle.resident.specs.Calls.{KeptInstance, ExportsFirst, ExportsNoFunction}
 use Rattle.resident.specs.Underway.{CallUnderway, HasCome, used_by}
 use Rattle.resident.specs.Slices.{CallGoesOn, EndsCall}

@@ -6,7 +6,7 @@ use denote.RawPtr.{Ptr}
 use Rattle.limits.specs.declared.TheConstants.{MAX_DEPTH}
 use Rattle.instance.specs.Fresh.{IsFresh}
 use Rattle.instance.specs.Store.{page_limit}
-use Rattle.validate.specs.Segments.{minimum}
+use Rattle.valid.specs.Segments.{minimum}
 use Rattle.order.specs.Orders.{order_of, end_of}
 use Rattle.order.specs.declared.order.Order.{Order}
 use Rattle.order.specs.declared.order.Outcome.{Outcome}

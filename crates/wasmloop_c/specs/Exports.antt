@@ -3,7 +3,7 @@ use Rattle.std.specs.Prelude.{◌≡◌, ℕ, List, length, slice_get, MatchOpti
 use Rattle.syntax.specs.declared.contents.Contents.{Contents}
 use Rattle.syntax.specs.declared.contents.ExternKind.{ExternKind}
 use Rattle.syntax.specs.declared.contents.ExternKind.TheVariants as kind
-use Rattle.validate.specs.Typing.{type_of_function}
+use Rattle.valid.specs.Typing.{type_of_function}
 use Rattle.wasmloop_c.specs.Calls.{copied, module_of}
 use Rattle.wasmloop_c.specs.Signatures.{type_numbers}
 use Rattle.wasmloop_c.specs.declared.exports.Listed.{Listed}

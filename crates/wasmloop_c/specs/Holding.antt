@@ -3,7 +3,7 @@ use Rattle.std.specs.Prelude.{◌≡◌, ◌+◌, ◌*◌, ℕ, length, Option, 
 use Rattle.std.specs.Arc.{arc_value}
 use Rattle.limits.specs.declared.TheConstants.{MAX_BYTES}
 use Rattle.syntax.specs.Loaded.{Loaded}
-use Rattle.validate.specs.Segments.{minimum}
+use Rattle.valid.specs.Segments.{minimum}
 use Rattle.instance.specs.Store.{Store}
 use Rattle.order.specs.Orders.{order_of}
 use Rattle.order.specs.Underway.{Underway}

@@ -4,7 +4,7 @@ use Rattle.syntax.specs.Loaded.{Loaded}
 use Rattle.syntax.specs.declared.contents.Contents.{Contents}
 use Rattle.syntax.specs.declared.contents.FuncType.{FuncType}
 use Rattle.syntax.specs.declared.types.Value.{Value}
-use Rattle.validate.specs.Typing.{HasFunctionType}
+use Rattle.valid.specs.Typing.{HasFunctionType}
 use Rattle.instance.specs.Store.{memory_of, with_memory_instance}
 use Rattle.instance.specs.Reads.{WritesAt}
 use Rattle.events.specs.declared.ended.Ended.{Ended}

@@ -5,7 +5,7 @@ use Rattle.syntax.specs.declared.types.ValType.{ValType}
 use Rattle.syntax.specs.declared.types.ValType.TheVariants as value_type
 use Rattle.syntax.specs.declared.contents.Contents.{Contents}
 use Rattle.syntax.specs.declared.contents.FuncType.{FuncType}
-use Rattle.validate.specs.Typing.{HasFunctionType}
+use Rattle.valid.specs.Typing.{HasFunctionType}
 use Rattle.resident.specs.Calls.{ExportsFirst, ExportsNoFunction}
 use Rattle.wasmloop_c.specs.Calls.{copied, module_of}
 use Rattle.wasmloop_c.specs.declared.status.TheConstants.{OK, NONE, KIND}

@@ -12,7 +12,7 @@ use crate::thing::Thing;
 use imports::Linked;
 use std::alloc::Global;
 use syntax::contents::{Contents, ExternKind, ModuleExport};
-use validate::type_of_function;
+use valid::type_of_function;
 
 /// What an export is.
 #[repr(C)]

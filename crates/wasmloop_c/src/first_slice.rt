@@ -3,7 +3,7 @@
 ghost use Rattle.std.specs.Prelude.{◌≡◌, ◌≤◌, ◌<◌, ◌⊎◌, length};
 ghost use Rattle.limits.specs.declared.TheConstants.{MAX_DEPTH};
 ghost use Rattle.syntax.specs.declared.contents.FuncType.{FuncType};
-ghost use Rattle.validate.specs.Typing.{HasFunctionType};
+ghost use Rattle.valid.specs.Typing.{HasFunctionType};
 ghost use Rattle.reduction.specs.Invoking.{TakesArguments};
 ghost use Rattle.wasmloop_c.specs.FirstSlices.{CallsFor, CallsForHeld, CallsForStage, SlicesFirst};
 ghost use Rattle.wasmloop_c.specs.declared.thing.InstanceStage.TheVariants as stage;

@@ -4,7 +4,7 @@ ghost use Rattle.std.specs.Prelude.{◌≡◌, ◌≤◌, ◌<◌, ◌↔◌, �
 ghost use Rattle.std.specs.Arc.{arc_value};
 ghost use Rattle.limits.specs.declared.TheConstants.{MAX_DEPTH};
 ghost use Rattle.syntax.specs.declared.contents.FuncType.{FuncType};
-ghost use Rattle.validate.specs.Typing.{HasFunctionType};
+ghost use Rattle.valid.specs.Typing.{HasFunctionType};
 ghost use Rattle.events.specs.declared.ended.Ended.{Ended as HowEnded};
 ghost use Rattle.reduction.specs.Invoking.{TakesArguments};
 ghost use Rattle.resident.specs.Calls.{CallsInstance, IsNew};

@@ -3,7 +3,7 @@
 ghost use Rattle.std.specs.Prelude.{◌≡◌, is_some};
 ghost use Rattle.imports.specs.Uv.{name_of_entry};
 ghost use Rattle.instance.specs.Store.{page_limit};
-ghost use Rattle.validate.specs.Segments.{minimum};
+ghost use Rattle.valid.specs.Segments.{minimum};
 ghost use Rattle.wasmloop_c.specs.Calls.{ReadsHandle, ReadsModule, IsShapeOf, TellsEntry};
 
 use crate::handle::{Handle, on};

@@ -1,6 +1,6 @@
 -- What a run of an order comes to.
 use Rattle.std.proofs.Common.{◌≡◌, ℕ, List, refl}
-use Rattle.validate.specs.Valid.{ValidModule}
+use Rattle.valid.specs.Valid.{ValidModule}
 use Rattle.order.specs.Work.{WorkOrder, WorkEnd, Done, NoMemory, Works, Uses, IsTheEnd, IsEndOf}
 use Rattle.working.specs.declared.report.WorkReport.{WorkReport}
 use Rattle.working.specs.declared.report.WorkReport.TheVariants as report

@@ -6,7 +6,7 @@ use Rattle.instance.specs.Store.{Store}
 use Rattle.instance.specs.Fresh.{IsFresh}
 use Rattle.instance.specs.Storing.{IsStoreOf}
 use Rattle.reduction.specs.Run.{Returned}
-use Rattle.validate.specs.Typing.{type_of_function}
+use Rattle.valid.specs.Typing.{type_of_function}
 use Rattle.imports.specs.Linking.{ExportsFunction}
 use Rattle.imports.specs.Uv.{type_of_entry}
 use Rattle.imports.specs.declared.entry_point.EntryPoint.TheVariants.{Work}

@@ -1,6 +1,6 @@
 -- A new instance, on which a function may be called.
 use Rattle.syntax.specs.declared.contents.Contents.{Contents}
-use Rattle.validate.specs.Valid.{ValidModule}
+use Rattle.valid.specs.Valid.{ValidModule}
 use Rattle.instance.specs.Store.{Store}
 use Rattle.instance.specs.Fresh.{IsFresh}
 use Rattle.instance.specs.Storing.{IsStoreOf}

@@ -2,7 +2,7 @@
 
 ghost use Rattle.std.specs.Prelude.{◌≡◌, ◌≤◌, ℕ, Some, length, map, vec_capacity};
 ghost use Rattle.limits.specs.declared.TheConstants.{MAX_BYTES};
-ghost use Rattle.validate.specs.Typing.{type_of};
+ghost use Rattle.valid.specs.Typing.{type_of};
 ghost use Rattle.reduction.specs.Hosting.{Answers};
 ghost use Rattle.imports.specs.Uv.{type_of_call};
 ghost use Rattle.order.specs.Uv.Bytes.{set_out};

@@ -4,7 +4,7 @@ ghost use Rattle.std.specs.Prelude.{◌≡◌, ◌≤◌, ◌+◌, [], ◌∷◌
 ghost use Rattle.limits.specs.declared.TheConstants.{MAX_BYTES};
 ghost use Rattle.syntax.specs.declared.types.ValType.TheVariants as valtype;
 ghost use Rattle.syntax.specs.declared.types.Value.TheVariants as value;
-ghost use Rattle.validate.specs.Typing.{type_of};
+ghost use Rattle.valid.specs.Typing.{type_of};
 ghost use Rattle.reduction.specs.Hosting.{TakesParams};
 ghost use Rattle.imports.specs.Linking.{Imports};
 ghost use Rattle.imports.specs.Uv.{type_of_call};

@@ -9,8 +9,8 @@ use Rattle.validate.specs.declared.scope.Extent.{Extent}
 use Rattle.validate.specs.declared.frames.ControlFrame.{ControlFrame}
 use Rattle.validate.specs.declared.checker.Checker.{Checker}
 use Rattle.validate.specs.Inner.Operands.{Held, Fits}
-use Rattle.validate.specs.Typing.{Context, InstrTyped}
-use Rattle.validate.specs.Height.{effect_of, after_effect, shape_of}
+use Rattle.valid.specs.Typing.{Context, InstrTyped}
+use Rattle.valid.specs.Height.{effect_of, after_effect, shape_of}
 use Rattle.validate.specs.Inner.Frames.{context_of}
 
 abbrev pub context_in : Scope → List ControlFrame → Context

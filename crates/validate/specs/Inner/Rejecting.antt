@@ -11,9 +11,9 @@ use Rattle.validate.specs.declared.frames.ControlFrame.{ControlFrame}
 use Rattle.validate.specs.declared.checker.Checker.{Checker}
 use Rattle.validate.specs.declared.fault.BodyFault.{BodyFault}
 use Rattle.validate.specs.declared.fault.BodyFault.TheVariants as fault
-use Rattle.validate.specs.Stack.{pushed}
-use Rattle.validate.specs.Typing.{Context, InstrTyped, type_of_block}
-use Rattle.validate.specs.Height.{shape_of}
+use Rattle.valid.specs.Stack.{pushed}
+use Rattle.valid.specs.Typing.{Context, InstrTyped, type_of_block}
+use Rattle.valid.specs.Height.{shape_of}
 use Rattle.validate.specs.Inner.Operands.{Fits, Lacks}
 use Rattle.validate.specs.Rules.{Rule, Indexes, Labels, Alignments, Mutabilities, Keeps, KeepsType}
 use Rattle.validate.specs.Inner.Checking.{context_at, height_in_all}

@@ -11,8 +11,8 @@ use Rattle.validate.specs.declared.frames.ControlFrame.{ControlFrame}
 use Rattle.validate.specs.declared.scope.Scope.{Scope}
 use Rattle.validate.specs.declared.checker.Checker.{Checker}
 use Rattle.validate.specs.Inner.Operands.{Held, held_of, held_around, with_left, Takes}
-use Rattle.validate.specs.Typing.{type_of_block}
-use Rattle.validate.specs.Height.{shape_of}
+use Rattle.valid.specs.Typing.{type_of_block}
+use Rattle.valid.specs.Height.{shape_of}
 use Rattle.validate.specs.Inner.Checking.{StaysInside}
 
 -- a block begins: its parameters are taken from the block around it, and it begins with them

@@ -1,6 +1,6 @@
 use Rattle.std.proofs.Common.{rules}
 use Rattle.std.proofs.lemmas.List.Elements.{All-get_or}
-use Rattle.validate.specs.Valid.{IsConstant}
+use Rattle.valid.specs.Valid.{IsConstant}
 use Rattle.instance.proofs.fresh.first_globals.Goals as goal
 
 pub constant_of-requires : goal.constant_of-requires

@@ -1,5 +1,5 @@
 use Rattle.std.proofs.Common.{◌≡◌, map, take}
-use Rattle.validate.specs.Segments.{constant_in}
+use Rattle.valid.specs.Segments.{constant_in}
 use Rattle.instance.proofs.fresh.first_globals.Given as goal
 
 abbrev pub invariant-loop-global : goal.invariant-loop-global

@@ -1,6 +1,6 @@
 use Rattle.std.proofs.Common.{◌≡◌, ◌*◌, length, drop}
 use Rattle.limits.specs.declared.TheConstants.{PAGE_SIZE}
-use Rattle.validate.specs.Segments.{minimum}
+use Rattle.valid.specs.Segments.{minimum}
 use Rattle.instance.specs.Store.{page_limit}
 use Rattle.instance.specs.Fresh.{all_written, with_data, fresh_bytes}
 use Rattle.instance.proofs.fresh.first_memory.Given as goal

@@ -1,5 +1,5 @@
 use Rattle.std.proofs.Common.{◌≡◌, length, drop}
-use Rattle.validate.specs.Segments.{minimum}
+use Rattle.valid.specs.Segments.{minimum}
 use Rattle.instance.specs.Fresh.{all_written, with_element, fresh_table}
 use Rattle.instance.proofs.fresh.first_table.Given as goal
 

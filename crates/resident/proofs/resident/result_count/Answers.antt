@@ -1,5 +1,5 @@
 use Rattle.resident.proofs.Words.{arith, Contents, subst, sym}
-use Rattle.validate.specs.Valid.{ValidModule}
+use Rattle.valid.specs.Valid.{ValidModule}
 use Rattle.resident.proofs.Refused.{few_results}
 use Rattle.resident.proofs.resident.result_count.Goals as goal
 

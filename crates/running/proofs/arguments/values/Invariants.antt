@@ -1,5 +1,5 @@
 use Rattle.std.proofs.Common.{◌≡◌, map, string_bytes, take}
-use Rattle.validate.specs.Typing.{type_of}
+use Rattle.valid.specs.Typing.{type_of}
 use Rattle.running.specs.Arguments.{AllSpell}
 use Rattle.running.proofs.arguments.values.Given as goal
 

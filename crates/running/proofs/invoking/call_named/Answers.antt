@@ -4,7 +4,7 @@ use Rattle.std.proofs.lemmas.Result.{IfOk-weaker}
 use Rattle.syntax.specs.Loaded.{Loaded}
 use Rattle.syntax.specs.declared.contents.ExternKind.TheVariants.{Func}
 use Rattle.syntax.specs.Exporting.{IsFirst}
-use Rattle.validate.specs.Typing.{HasFunctionType}
+use Rattle.valid.specs.Typing.{HasFunctionType}
 use Rattle.running.specs.Arguments.{AllSpell}
 use Rattle.running.proofs.InvocationParts.{takes}
 use Rattle.running.proofs.invoking.call_named.Goals as goal

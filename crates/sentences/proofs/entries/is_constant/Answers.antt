@@ -3,7 +3,7 @@ use Rattle.syntax.specs.Code.{Plain, Done}
 use Rattle.syntax.specs.declared.instruction.Instr.TheVariants.{Const}
 use Rattle.syntax.specs.declared.types.Value.{Value}
 use Rattle.syntax.proofs.Constants.{same_value}
-use Rattle.validate.specs.Typing.{type_of}
+use Rattle.valid.specs.Typing.{type_of}
 use Rattle.sentences.proofs.entries.is_constant.Goals as goal
 
 pub returns-in-Some : goal.returns-in-Some

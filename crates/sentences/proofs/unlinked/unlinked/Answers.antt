@@ -1,6 +1,6 @@
 use Rattle.std.proofs.Common.{refl, subst}
 use Rattle.syntax.specs.Binary.{Spells}
-use Rattle.validate.specs.Valid.{ValidModule}
+use Rattle.valid.specs.Valid.{ValidModule}
 use Rattle.imports.specs.Sites.{IsMisfit}
 use Rattle.sentences.specs.RefusalPlaces.{IsPlaceOfMisfit}
 use Rattle.sentences.proofs.unlinked.unlinked.Goals as goal

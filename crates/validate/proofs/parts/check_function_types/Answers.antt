@@ -1,5 +1,5 @@
 use Rattle.validate.proofs.Words.{Func, IsSome, rules, slice_get}
-use Rattle.validate.proofs.Items.{all_more, all_at_end}
+use Rattle.valid.proofs.Items.{all_more, all_at_end}
 use Rattle.validate.proofs.parts.check_function_types.Goals as goal
 
 pub loop-func-preserved : goal.loop-func-preserved

@@ -1,7 +1,7 @@
 use Rattle.wasmloop_c.proofs.Names.{ap, arith, Contents, FuncType, length, List, sym, take, Value, ℕ, [], ◌∙◌, ◌∷◌, ◌≡◌, ◌≤◌}
 use Rattle.std.proofs.lemmas.List.{take_all, length-take-le}
 use Rattle.syntax.specs.declared.types.Value.TheVariants.{I32}
-use Rattle.validate.specs.Typing.{HasFunctionType}
+use Rattle.valid.specs.Typing.{HasFunctionType}
 use Rattle.interp.specs.Lent.{ended_in, ended_with, result_count}
 use Rattle.interp.proofs.CountsOfResults.{count_is}
 use Rattle.wasmloop_c.specs.Values.{call_numbers}

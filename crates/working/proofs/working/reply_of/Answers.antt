@@ -1,7 +1,7 @@
 use Rattle.std.proofs.Common.{ap, subst}
 use Rattle.std.specs.Arc.{arc_value}
 use Rattle.syntax.specs.Loaded.{Loaded}
-use Rattle.validate.specs.Valid.{ValidModule}
+use Rattle.valid.specs.Valid.{ValidModule}
 use Rattle.order.specs.Orders.{end_of}
 use Rattle.order.specs.Work.{WorkOrder}
 use Rattle.working.specs.Working.{asked_order}

@@ -1,0 +1,2 @@
+-- No public clause reaches this: how targets are kept.
+pub mod Packing

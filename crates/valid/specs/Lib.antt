@@ -1,0 +1,9 @@
+pub mod Stack
+pub mod Inner
+pub mod Typing
+pub mod Height
+pub mod Valid
+pub mod Spread
+pub mod Targets
+pub mod Segments
+pub mod SameTypes

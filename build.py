@@ -42,7 +42,7 @@ TOP = os.path.dirname(os.path.realpath(__file__))
 FOR_C = ("wasmloop_c",)
 # What a check takes of memory, as measured, in bytes: so much, so much more for each second that it takes, this at most; and of that this part more for
 # each job beside the first.
-CHECK, SECOND, MOST, BESIDE_ONE = 1_200_000_000, 8_000_000, 3_700_000_000, 0.1
+CHECK, SECOND, MOST_MEMORY, BESIDE_ONE = 1_200_000_000, 8_000_000, 3_700_000_000, 0.1
 # How exactly free memory is looked at, and the part of it that is used.
 STEP, USED = 250_000_000, 0.9
 # More jobs than these hardly shorten a check.
@@ -160,7 +160,7 @@ class Plan:
         return at_one + (work - at_one) * SHARED / self.jobs
 
     def memory(self, crate: RtCrate, jobs: int) -> float:
-        return min(CHECK + SECOND * self.work[crate], MOST) * (1 + BESIDE_ONE * (jobs - 1))
+        return min(CHECK + SECOND * self.work[crate], MOST_MEMORY) * (1 + BESIDE_ONE * (jobs - 1))
 
     def fitting(self, crate: RtCrate, jobs: int, room: float) -> int:
         """Returns as many of the jobs as have so much memory."""
@@ -253,9 +253,12 @@ def text_of(file: str) -> str:
 def costs() -> Dict[str, Tuple[float, ...]]:
     """Returns the processor seconds that an earlier gate took for each crate: for its proof, and for compiling a program; for its tests' proofs; for
     its wrong bodies. Without that table, which order and number of checks rest on, it ends this program."""
-    if not os.path.isfile(TABLE):
+    try:
+        with open(TABLE, encoding="utf-8") as it:
+            rows = re.findall(r"(?m)^(\w+): (.*)", it.read())
+    except FileNotFoundError:
         sys.exit(f"{program_name}: expected the table of what crates take, {TABLE}, found no such file")
-    return {name: tuple(map(float, rest.split())) for name, rest in re.findall(r"(?m)^(\w+): (.*)", text_of(TABLE))}
+    return {name: tuple(map(float, rest.split())) for name, rest in rows}
 
 
 def over_statements(crates: Sequence[RtCrate]) -> None:

@@ -80,9 +80,6 @@ NOT_RUN = -1000
 # What a part may take that proves nothing, and how often all are looked at, in seconds.
 PROVES = (RT, BODIES, "library proved")
 LONGEST, LOOK = 2400.0, 0.3
-# What one of some checks at a time takes at most, as measured, in bytes. rt reckons with 4 to 9 GB for each of the large crates, by their
-# lines, and leaves processors idle where so much isn't free; with RT_JOBS it takes that many checks at a time, one job each.
-CHECK = 3_000_000_000
 # With so many processors, and for each so much free, rt's own choice is faster: it gives jobs to a check on which many others wait.
 MANY, EACH = 8, 3_500_000_000
 # of what any part says, what tells that something is wrong, and that something was left out; of what rattle says, what tells where
@@ -93,13 +90,14 @@ PLACE = re.compile(r"^(?:note: )?(?:\./)?((?:src|specs|proofs)/\S+:\d+:\d+: .*)"
 
 def checks_at_once() -> Optional[int]:
     """How many checks `rt ci` is to run at a time, as far as they fit into free memory: one for each processor, but of four or more one is left
-    to what runs beside it. None where rt is to choose."""
+    to what runs beside it. None where rt is to choose. rt reckons with 4 to 9 GB for each of the large crates, by their lines, and leaves
+    processors idle where so much isn't free; with RT_JOBS it takes that many checks at a time, one job each."""
     rtlib = build.kit() if shutil.which("rt") else None
     processors = len(os.sched_getaffinity(0))
     if not rtlib or processors >= MANY and rtlib.fits(*[EACH] * processors):
         return None
     found = processors - (processors > 3)
-    while found > 1 and not rtlib.fits(*[CHECK] * found):
+    while found > 1 and not rtlib.fits(*[build.MOST_MEMORY] * found):
         found -= 1
     return found
 

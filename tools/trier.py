@@ -28,8 +28,8 @@ from verdicts import BAD, KEPT, MISSED, REFUSED, UNSURE, told_in, verdict  # noq
 
 # What a verdict is made by: what it was is kept as long as these are the same.
 MADE_BY = [__file__, edits_of_tree.__file__, left_open.__file__, verdicts.__file__]
-# What a check takes of memory at most, in bytes; and how long it waits between two looks whether that is free, or libraries are there.
-CHECK, LOOK = 3_000_000_000, 1.0
+# How long it waits between two looks whether memory is free, or libraries are there, in seconds.
+LOOK = 1.0
 
 
 class Kept:
@@ -71,7 +71,7 @@ class Memory:
     def __enter__(self) -> None:
         while True:
             with Memory.lock:
-                if not self.over or os.path.exists(f"{self.over}/over") or self.rtlib.fits(CHECK * (Memory.running + 1)):
+                if not self.over or os.path.exists(f"{self.over}/over") or self.rtlib.fits(build.MOST_MEMORY * (Memory.running + 1)):
                     Memory.running += 1
                     return
             time.sleep(LOOK)

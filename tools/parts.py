@@ -11,7 +11,7 @@ import subprocess
 import sys
 import threading
 import time
-from typing import Callable, List, Optional, Sequence
+from typing import Callable, List, Optional, Sequence, Tuple
 
 TOP = os.path.dirname(os.path.dirname(os.path.realpath(__file__)))
 sys.dont_write_bytecode = True
@@ -43,7 +43,7 @@ LIBRARY = {
 BODIES = "wrong bodies"
 WRONG = {
     "planted bodies": ["tools/wrong.py", "--planted"],
-    BODIES: ["tools/wrong.py", "--promises", "--jobs", "2", "--over", "{proved}"],
+    BODIES: ["tools/wrong.py", "--promises", "--jobs", "2", "--over", "{proved}", "--slots", "{room}/slots"],
 }
 SHIPPED = {
     "threads": ["tests/threads.sh", PROGRAM],
@@ -82,24 +82,26 @@ PROVES = (RT, BODIES, "library proved")
 LONGEST, LOOK = 2400.0, 0.3
 # With so many processors, and for each so much free, rt's own choice is faster: it gives jobs to a check on which many others wait.
 MANY, EACH = 8, 3_500_000_000
+# The library's own proof, and wrong bodies of two crates.
+MOST_BESIDE = 3
 # of what any part says, what tells that something is wrong, and that something was left out; of what rattle says, what tells where
 FAULT = re.compile(r"NOT PROVED|NOT REFUSED|NOT TRIED|BAD EDIT|FAILED|^rt: \w+ (?:wrote|ended)|: error\b|could not tell|no verdict")
 LEFT_OUT = re.compile(r"(?:^|: )left out[:,]")
 PLACE = re.compile(r"^(?:note: )?(?:\./)?((?:src|specs|proofs)/\S+:\d+:\d+: .*)")
 
 
-def checks_at_once() -> Optional[int]:
-    """How many checks `rt ci` is to run at a time, as far as they fit into free memory: one for each processor, but of four or more one is left
-    to what runs beside it. None where rt is to choose. rt reckons with 4 to 9 GB for each of the large crates, by their lines, and leaves
-    processors idle where so much isn't free; with RT_JOBS it takes that many checks at a time, one job each."""
+def checks_at_once() -> Tuple[Optional[int], int]:
+    """How many checks `rt ci` is to run at a time: one for each processor, but of four or more one is left to what runs beside it, and no more than
+    free memory holds; None where rt is to choose. And how many more may run beside it: those that memory holds then, MOST_BESIDE at most. rt
+    reckons with 4 to 9 GB for each of the large crates, by their lines, and leaves processors idle where so much isn't free; with RT_JOBS it takes
+    that many checks at a time, one job each."""
     rtlib = build.kit() if shutil.which("rt") else None
     processors = len(os.sched_getaffinity(0))
     if not rtlib or processors >= MANY and rtlib.fits(*[EACH] * processors):
-        return None
-    found = processors - (processors > 3)
-    while found > 1 and not rtlib.fits(*[build.MOST_MEMORY] * found):
-        found -= 1
-    return found
+        return None, MOST_BESIDE
+    held = max(1, int(build.free_memory(rtlib) / build.USED / build.MOST_MEMORY))
+    at_once = min(processors - (processors > 3), held)
+    return at_once, min(held - at_once, MOST_BESIDE)
 
 
 def yields(process: int, nice: int) -> None:
@@ -125,15 +127,14 @@ class Part:
         with open(self.log, encoding="utf-8", errors="replace") as file:
             return file.read()
 
-    def run(self, hears: Callable[[str], None]) -> None:
-        """Runs it, and has each line of its output heard."""
+    def run(self, hears: Callable[[str], None], at_once: Optional[int] = None) -> None:
+        """Runs it, and has each line of its output heard; `rt ci` with so many checks at a time."""
         began, env, rest = time.monotonic(), {**os.environ, "PYTHONDONTWRITEBYTECODE": "1"}, ""
         if self.name in WRONG:
             # (copies of crates go with the run's folder, however it ends)
             env["TMPDIR"] = self.room
-        at_once = checks_at_once() if self.name == RT and "RT_JOBS" not in env else None
-        if at_once:
-            env["RT_JOBS"] = str(at_once)
+        if at_once and self.name == RT:
+            env.setdefault("RT_JOBS", str(at_once))
         words = ["nice", "-n", str(self.nice), *self.words] if self.nice else self.words
         with open(self.log, "w", encoding="utf-8") as log, open(self.log, encoding="utf-8", errors="replace") as heard:
             try:

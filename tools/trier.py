@@ -10,8 +10,6 @@ import signal
 import subprocess
 import sys
 import tempfile
-import threading
-import time
 from pathlib import Path
 from typing import Dict, Iterator, List, Mapping, Optional, Sequence, Set, Tuple
 
@@ -22,14 +20,13 @@ import build  # noqa: E402
 import edits as edits_of_tree  # noqa: E402
 import kept  # noqa: E402
 import left_open  # noqa: E402
+import slots  # noqa: E402
 import verdicts  # noqa: E402
 from edits import PARTS, Copy, Edit, copies_of  # noqa: E402
 from verdicts import BAD, KEPT, MISSED, REFUSED, UNSURE, told_in, verdict  # noqa: E402
 
 # What a verdict is made by: what it was is kept as long as these are the same.
 MADE_BY = [__file__, edits_of_tree.__file__, left_open.__file__, verdicts.__file__]
-# How long it waits between two looks whether memory is free, or libraries are there, in seconds.
-LOOK = 1.0
 
 
 class Kept:
@@ -60,32 +57,11 @@ class Kept:
             os.replace(it.name, self.file(edit))
 
 
-class Memory:
-    """A check, which waits while `rt ci` is at work and memory is short."""
-
-    lock, running = threading.Lock(), 0
-
-    def __init__(self, rtlib: build.Kit, over: Optional[str]) -> None:
-        self.rtlib, self.over = rtlib, over
-
-    def __enter__(self) -> None:
-        while True:
-            with Memory.lock:
-                if not self.over or os.path.exists(f"{self.over}/over") or self.rtlib.fits(build.MOST_MEMORY * (Memory.running + 1)):
-                    Memory.running += 1
-                    return
-            time.sleep(LOOK)
-
-    def __exit__(self, *_: object) -> None:
-        with Memory.lock:
-            Memory.running -= 1
-
-
 class Trier:
     """Tries the wrong bodies of one crate."""
 
-    def __init__(self, rtlib: build.Kit, crate: build.RtCrate, edits: Sequence[Edit], tells: bool, over: Optional[str] = None) -> None:
-        self.rtlib, self.crate, self.edits, self.tells, self.over = rtlib, crate, edits, tells, over
+    def __init__(self, rtlib: build.Kit, crate: build.RtCrate, edits: Sequence[Edit], tells: bool, at_once: Optional[str] = None) -> None:
+        self.rtlib, self.crate, self.edits, self.tells, self.at_once = rtlib, crate, edits, tells, at_once
         self.checked = tempfile.mkdtemp(prefix="wrong-checked-")
         self.checks = 0
         self.apart: Set[Edit] = set()
@@ -94,7 +70,7 @@ class Trier:
         """Checks these functions, or else all, of a copy of the crate with these texts; returns the status, and what is said. Of all others the
         bodies and proofs are left out where these are to be checked alone."""
         self.checks += 1
-        with Memory(self.rtlib, self.over):
+        with slots.taken(self.at_once):
             return self.check_now(texts, functions, are_alone)
 
     def check_now(self, texts: Mapping[str, str], functions: Sequence[str], are_alone: bool) -> Tuple[int, str]:

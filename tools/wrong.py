@@ -1,7 +1,7 @@
 #!/usr/bin/env python3
 """Tries wrong bodies, many in one check: the prover must refuse each of them, at the promise that it breaks.
 
-usage: tools/wrong.py [--over FOLDER | --over-gate] [--promises] [--anew] [--jobs N] [--tell] [--write] [CRATE[/NAME]..]
+usage: tools/wrong.py [--over FOLDER | --over-gate] [--slots FOLDER] [--promises] [--anew] [--jobs N] [--tell] [--write] [CRATE[/NAME]..]
        tools/wrong.py --check        whether each can be put into the tree; nothing is proved
        tools/wrong.py --plan [CRATE..]   which are tried together
        tools/wrong.py --self-test    the planning and the reading of verdicts, on texts that are known
@@ -49,10 +49,12 @@ sys.path.insert(0, TOP)
 import build  # noqa: E402
 import wrong_test  # noqa: E402
 from edits import Edit, copies_of  # noqa: E402
-from trier import LOOK, Kept, Trier  # noqa: E402
+from trier import Kept, Trier  # noqa: E402
 from verdicts import BAD, KEPT, REFUSED, UNNAMED, UNSURE  # noqa: E402
 
 FOLDERS = ("must-fail", "wrong")
+# How long it waits between two looks whether libraries are there, in seconds.
+LOOK = 1.0
 
 
 def edits_of(crate: str, wanted: Collection[str] = (), promises: bool = False) -> List[Edit]:
@@ -139,6 +141,7 @@ def arguments() -> argparse.ArgumentParser:
     parser.add_argument("wanted", nargs="*", metavar="CRATE[/NAME]")
     parser.add_argument("--over", metavar="FOLDER", help="take the libraries of this folder, as they come")
     parser.add_argument("--over-gate", action="store_true", help="take the libraries that `rt ci` has just proved")
+    parser.add_argument("--slots", metavar="FOLDER", help="run as many checks at a time as this folder has files (tools/slots.py)")
     parser.add_argument("--promises", action="store_true", help="only those that name a promise")
     parser.add_argument("--jobs", type=int, default=1, help="how many crates at a time")
     parser.add_argument("--anew", action="store_true", help="take nothing from earlier runs")
@@ -160,7 +163,7 @@ def try_all(given: argparse.Namespace, edits: Mapping[str, Sequence[Edit]]) -> i
     done: Set[str] = set()
 
     def one(name: str) -> None:
-        trier = Trier(kit, crates[name], edits[name], given.tell, given.over)
+        trier = Trier(kit, crates[name], edits[name], given.tell, given.slots)
         for edit, (kind, why) in trier.all(None if given.anew else Kept(kit, crates[name])):
             told.tells(edit, kind, why)
             why = why[: -len(KEPT)] if why.endswith(KEPT) else why

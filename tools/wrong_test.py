@@ -7,6 +7,8 @@ import glob
 import os
 import sys
 import tempfile
+import threading
+import time
 from pathlib import Path
 from typing import Dict, List, Mapping, Optional, Sequence
 
@@ -14,6 +16,7 @@ TOP = os.path.dirname(os.path.dirname(os.path.realpath(__file__)))
 sys.dont_write_bytecode = True
 sys.path.insert(0, TOP)
 import build  # noqa: E402
+import slots  # noqa: E402
 from edits import Alone, Edit, Place, place_in  # noqa: E402
 from left_open import leave_open  # noqa: E402
 from trier import Kept, Trier  # noqa: E402
@@ -78,8 +81,30 @@ def left() -> List[str]:
     return [] if right else [f"left out are {count}, of {found}, by {cites!r}, in {code!r}"]
 
 
+def most_at_once(count: int, checks: int = 4) -> int:
+    """How many of some checks run at a time over so many slots, where each ends once others could have begun."""
+    running: List[int] = []
+    counts: List[int] = []
+
+    def check(folder: str) -> None:
+        with slots.taken(folder):
+            running.append(1)
+            counts.append(len(running))
+            time.sleep(3 * slots.LOOK / checks)
+            running.pop()
+
+    with tempfile.TemporaryDirectory() as folder:
+        slots.add(folder, count)
+        threads = [threading.Thread(target=check, args=(folder,)) for _ in range(checks)]
+        for it in threads:
+            it.start()
+        for it in threads:
+            it.join()
+    return max(counts)
+
+
 def known() -> int:
-    """The planning, the proofs left open, and the reading of what rattle says, on texts that are known."""
+    """The planning, the proofs left open, the reading of what rattle says, on texts that are known; and how many checks run at a time."""
     places = {"let a = 1;": "m::OneTwo::f", "    2": "m::g", "requires x { a }": Alone, "use a::b;": Alone, "pub fn f(self)": Alone, "u8 = 3": Alone}
     wrong = left()
     for old, what in places.items():
@@ -99,7 +124,9 @@ def known() -> int:
     for edit, kind in verdicts:
         found = verdict(edit, TOLD)
         wrong += [] if (found and found[0]) == kind else [f"{edit.functions} by {edit.wanted}: {found}, not {kind}"]
-    print("\n".join(wrong) or f"{len(places) + 4 + len(verdicts)} known answers are found")
+    most = [most_at_once(count) for count in (1, 2)]
+    wrong += [] if most == [1, 2] else [f"over one slot and over two run {most} checks at a time"]
+    print("\n".join(wrong) or f"{len(places) + 6 + len(verdicts)} known answers are found")
     return 1 if wrong else 0
 
 

@@ -336,16 +336,16 @@ def shares() -> Tuple[int, int]:
 
 
 def free_memory(rtlib: Kit) -> float:
-    """Returns how much memory the checks may take, in bytes."""
+    """Returns how much memory is free, in bytes."""
     steps = 1
     while rtlib.fits(STEP * (steps + 1)):
         steps += 1
-    return USED * STEP * steps
+    return STEP * steps
 
 
 def build_all(rtlib: Kit, plan: Plan) -> None:
     """Builds the crates that aren't built, each once those below it are, and those first that the longest chain stands on."""
-    room = free_memory(rtlib)
+    room = USED * free_memory(rtlib)
     plan.skips([it for it in plan.crates if is_built(rtlib, it)])
     waiting = sorted((it for it in plan.crates if it not in plan.done), key=lambda it: -plan.behind[it])
     if waiting:
@@ -417,7 +417,7 @@ def over_those_there(rtlib: Kit, programs: Sequence[RtCrate], folder: Optional[s
             say(f"{text_of(files['log'])}\n{program.name} is kept: an earlier run on this machine proved the same files over the same libraries")
             continue
         with open(files["log"], "w", encoding="utf-8") as program.out:
-            status = link(rtlib, program, plan.fitting(program, min(plan.jobs, most_jobs), free_memory(rtlib)))
+            status = link(rtlib, program, plan.fitting(program, min(plan.jobs, most_jobs), USED * free_memory(rtlib)))
         say(text_of(files["log"]))
         if status:
             return status

@@ -99,7 +99,7 @@ def checks_at_once() -> Tuple[Optional[int], int]:
     processors = len(os.sched_getaffinity(0))
     if not rtlib or processors >= MANY and rtlib.fits(*[EACH] * processors):
         return None, MOST_BESIDE
-    held = max(1, int(build.free_memory(rtlib) / build.USED / build.MOST_MEMORY))
+    held = max(1, int(build.free_memory(rtlib) / build.MOST_MEMORY))
     at_once = min(processors - (processors > 3), held)
     return at_once, min(held - at_once, MOST_BESIDE)
 

@@ -60,8 +60,8 @@ class Kept:
 class Trier:
     """Tries the wrong bodies of one crate."""
 
-    def __init__(self, rtlib: build.Kit, crate: build.RtCrate, edits: Sequence[Edit], tells: bool, at_once: Optional[str] = None) -> None:
-        self.rtlib, self.crate, self.edits, self.tells, self.at_once = rtlib, crate, edits, tells, at_once
+    def __init__(self, rtlib: build.Kit, crate: build.RtCrate, edits: Sequence[Edit], tells: bool, slots_in: Optional[str] = None) -> None:
+        self.rtlib, self.crate, self.edits, self.tells, self.slots_in = rtlib, crate, edits, tells, slots_in
         self.checked = tempfile.mkdtemp(prefix="wrong-checked-")
         self.checks = 0
         self.apart: Set[Edit] = set()
@@ -70,7 +70,7 @@ class Trier:
         """Checks these functions, or else all, of a copy of the crate with these texts; returns the status, and what is said. Of all others the
         bodies and proofs are left out where these are to be checked alone."""
         self.checks += 1
-        with slots.taken(self.at_once):
+        with slots.taken(self.slots_in):
             return self.check_now(texts, functions, are_alone)
 
     def check_now(self, texts: Mapping[str, str], functions: Sequence[str], are_alone: bool) -> Tuple[int, str]:

@@ -11,6 +11,7 @@ import threading
 import time
 from pathlib import Path
 from typing import Dict, List, Mapping, Optional, Sequence
+from unittest import mock
 
 TOP = os.path.dirname(os.path.dirname(os.path.realpath(__file__)))
 sys.dont_write_bytecode = True
@@ -93,7 +94,7 @@ def most_at_once(count: int, checks: int = 4) -> int:
             time.sleep(3 * slots.LOOK / checks)
             running.pop()
 
-    with tempfile.TemporaryDirectory() as folder:
+    with tempfile.TemporaryDirectory() as folder, mock.patch.object(slots, "LOOK", 0.02):
         slots.add(folder, count)
         threads = [threading.Thread(target=check, args=(folder,)) for _ in range(checks)]
         for it in threads:

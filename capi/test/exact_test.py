@@ -31,7 +31,7 @@ def of_libraries(names: Sequence[str]) -> Iterator[Asked]:
     if lacking:                                         # (their files are requests of others)
         print(f"left out: libraries: the sources of {', '.join(lacking)} can't be fetched")
         return
-    for name in names:
+    for name in compiling.compilable(names):
         compiling.write_made(name, libraries.PORTS[name])
         data = compiling.module(name, libraries.PORTS[name]).read_bytes()
         for _, operation, request, what in (it for it in libraries.rows(compiling.SOURCES) if it[0] == name):

@@ -113,6 +113,14 @@ def files(patterns: Iterable[str], without: Collection[str] = ()) -> list[pathli
     return found
 
 
+def compilable(names: Sequence[str]) -> list[str]:
+    """Those of the libraries that can be compiled: without Debian's C++ library for wasm none in C++. Says what is left out."""
+    lacking = [it for it in names if libraries.PORTS[it].cpp and not CPP_LIBRARIES[0].exists()]
+    if lacking:
+        print(f"left out: there is no {CPP_LIBRARIES[0]} for {', '.join(lacking)}")
+    return [it for it in names if it not in lacking]
+
+
 def soft() -> pathlib.Path:
     """soft.c as a module of its own, of which lower.py takes what it needs."""
     made, = compile_all(WASM + ["-ffreestanding"], [KIT / "soft.c"], OUT)

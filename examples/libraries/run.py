@@ -21,7 +21,7 @@ import sys
 from typing import Sequence
 
 import libraries
-from compiling import OUT, SOURCES, call, fetch, module, program, write_made
+from compiling import OUT, SOURCES, call, compilable, fetch, module, program, write_made
 
 HERE = pathlib.Path(__file__).resolve().parent
 HOST = os.environ.get("WASMLOOP", "wasmloop")
@@ -113,6 +113,7 @@ def main(names: list[str]) -> bool:
         if not fetch(package):
             names = [n for n in names if libraries.PORTS[n].package != package]
             print(f"left out: the sources of {package} can't be fetched")
+    names = compilable(names)
     for name in names:
         write_made(name, libraries.PORTS[name])
     built = {n: (module(n, libraries.PORTS[n]), program(n, libraries.PORTS[n])) for n in names}

@@ -140,6 +140,13 @@ rule("A listed handle that was stopped, closed, or stopped and started again is 
      "UV_MAIN() { for (int i = 0; i < 5; i++) uv_idle_start(uv_idle_init(), i ? say : first); }",
      "loop 0 x 8\n", "loop 0 run main 0 return\nloop 0 run idle 0 return\nloop 0 skip idle 1\nloop 0 skip idle 2\n"
      "loop 0 skip idle 3\nloop 0 run idle 4 return emit 4")
+rule("A listed timer that another one's callback stops is skipped; neither is active then.",
+     "static void first(int32_t h) { (void)h; uv_timer_stop(1); }"
+     "static void tell(int32_t h) { uv_idle_stop(h); uv_emit(uv_is_active(0)); uv_emit(uv_is_active(1)); }"
+     "UV_MAIN() { uv_timer_start(uv_timer_init(), first, 0, 0); uv_timer_start(uv_timer_init(), first, 0, 10);"
+     "uv_idle_start(uv_idle_init(), tell); }",
+     "loop 0 x 6\n", "loop 0 run main 0 return\nloop 0 run timer 0 return\nloop 0 skip timer 1\n"
+     "loop 0 run idle 2 return emit 0 0")
 rule("A timer that is started again while it is listed is skipped, and runs when it is due anew.",
      SAY + "static void first(int32_t h) { (void)h; uv_timer_start(1, say, 0, 0); }"
      "UV_MAIN() { uv_timer_start(uv_timer_init(), first, 0, 0); uv_timer_start(uv_timer_init(), say, 0, 0); }",

@@ -161,7 +161,7 @@ int wasmloop_job_run(wasmloop_handle *job);
  * and fuel are those of wasmloop_job_run. Sets *over to 0 if the job is paused: it has fuel left, and may continue, in this thread or another.
  * A slice that pauses uses all its units, or fewer, at least one in 1,025, once in_copy and out_set have copied more than 64 bytes per unit.
  * A paused job may be dropped; wasmloop_job_about reports the fuel that it has used; wasmloop_stop, wasmloop_stop_places and
- * wasmloop_stop_told report where it stands; every other call on it returns KIND.
+ * wasmloop_stop_told report where it stands; wasmloop_kind and wasmloop_held answer as ever; every other call on it returns KIND.
  * If an allocation of the first slice fails, the job is over with the outcome WASMLOOP_WORK_MEMORY; the last slice may allocate to shorten the
  * reply, and a failure there has no effect. RANGE: `units` is 0. KIND: the job is over. */
 int wasmloop_job_run_for(wasmloop_handle *job, uint64_t units, uint32_t *over);
@@ -263,9 +263,9 @@ int wasmloop_call(wasmloop_handle *instance, const char *name, const uint64_t *a
 int wasmloop_call_at(wasmloop_handle *instance, uint64_t number, const uint64_t *args, size_t count, const wasmloop_call_limits *limits, wasmloop_ended *ended);
 
 /* Begins a call by name, to be run in slices. It runs nothing yet, and allocates only for more than 8 arguments. NONE, ARGUMENTS, RANGE: as for
- * wasmloop_call. Until the call is over you may drop the instance and inspect it: wasmloop_size, wasmloop_read, wasmloop_global, and wasmloop_stop,
- * wasmloop_stop_places and wasmloop_stop_told, which report where it stands. Every other call on it but wasmloop_call_run_for
- * and wasmloop_call_end returns KIND. */
+ * wasmloop_call. Until the call is over you may drop the instance and inspect it: wasmloop_size, wasmloop_read, wasmloop_global, wasmloop_view,
+ * wasmloop_kind, wasmloop_held, and wasmloop_stop, wasmloop_stop_places and wasmloop_stop_told, which report where it stands. Every other call on it
+ * but wasmloop_call_run_for and wasmloop_call_end returns KIND. */
 int wasmloop_call_begin(wasmloop_handle *instance, const char *name, const uint64_t *args, size_t count, const wasmloop_call_limits *limits);
 
 /* Runs a slice of a call that has begun, in any thread: at most `units` units of fuel, at least 1. Sets *over to 1 if the
@@ -365,9 +365,10 @@ int wasmloop_step(wasmloop_handle *loop, wasmloop_did *did);
 /* Takes a slice of a step: its callback uses at most `units` units of fuel, at least 1. Sets *over to 1 if the step is over: *did, the emitted
  * values and the loop are those of wasmloop_step. Sets *over to 0 if its callback is paused: it has fuel left, and the next slice continues it,
  * in this thread or another. A slice that pauses uses all its units, or fewer, at least one in 1,025, once calls of "uv" have copied more than 64
- * bytes per unit. While a callback is paused you may drop the loop, or continue with wasmloop_step_for or wasmloop_turn_for; every other call on the
- * loop returns KIND. Only the first slice of a step returns MEMORY; what the guest's queue_work copies is allocated in the slice that runs it, and a
- * failure there is -12 to the guest. RANGE: `units` is 0. If *over is 0, *did is not written. */
+ * bytes per unit. While a callback is paused you may drop the loop, or continue with wasmloop_step_for or wasmloop_turn_for; wasmloop_kind and
+ * wasmloop_held answer as ever; every other call on the loop returns KIND. Only the first slice of a step returns MEMORY; what the guest's
+ * queue_work copies is allocated in the slice that runs it, and a failure there is -12 to the guest. RANGE: `units` is 0. If *over is 0, *did is
+ * not written. */
 int wasmloop_step_for(wasmloop_handle *loop, uint64_t units, uint32_t *over, wasmloop_did *did);
 
 #define WASMLOOP_FOREVER UINT64_MAX

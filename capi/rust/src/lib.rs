@@ -884,8 +884,8 @@ impl Instance {
         if over == 1 { ended.returned().map(Some) } else { Ok(None) }
     }
 
-    /// Begins a call to be run in slices; nothing runs yet. Until it is over, you may inspect the instance; every other call but `run_for` and `end_call`
-    /// fails.
+    /// Begins a call to be run in slices; nothing runs yet. Until it is over, you may inspect the instance; every call that would change it, but
+    /// `run_for` and `end_call`, fails.
     pub fn begin(&mut self, name: &str, args: &[u64], fuel: u64, depth: u32) -> Result<(), Error> {
         let (told, limits) = (export(name)?, call_limits(fuel, depth)?);
         let status = unsafe { wasmloop_call_begin(&mut self.0, told.as_ptr(), args.as_ptr(), args.len(), &limits) };

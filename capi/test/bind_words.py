@@ -48,7 +48,7 @@ def one(rng: random.Random, words: Sequence[str], used: Set[str]) -> str:
 def args(rng: random.Random, structs: Sequence[str], can_write: bool) -> str:
     """The arguments of a function: numbers, texts, bytes, structs, and at most one that it writes."""
     found: List[str] = []
-    used: Set[str] = set()
+    used = set(structs)         # (in C such a name would hide the type from the arguments behind it)
     for _ in range(rng.randrange(4)):
         name, kind = one(rng, WORDS, used), rng.choice(["number"] * 3 + ["text", "sized", "bytes"] + ["struct"] * bool(structs))
         used |= {f"{name}_size", f"{name}_room"}

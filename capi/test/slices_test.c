@@ -271,6 +271,22 @@ static void calls_agree(const char *file, const char *name, size_t count, uint64
     IS(wasmloop_drop(&once), WASMLOOP_OK);
 }
 
+/* a call that comes with bytes, of a function that asks for none, is a call */
+static void bytes_change_nothing(const char *file, const char *name, size_t count) {
+    static const wasmloop_call_limits limits = { 20000, 64, 0 };
+    wasmloop_handle module = module_of(file), one = instance_of(file), other = instance_of(file);
+    struct left without = called(&one, name, count, &limits), with;
+    uint64_t number = 7;
+    memset(&with, 0, sizeof with);
+    IS(wasmloop_export_number(&module, name, &number), WASMLOOP_OK);
+    IS(wasmloop_call_bytes(&other, number, given, count, (const uint8_t *)"abc", 3, &limits, &with.ended), WASMLOOP_OK);
+    look(&other, &with);
+    IS(memcmp(&without, &with, sizeof with), 0);
+    IS(wasmloop_drop(&module), WASMLOOP_OK);
+    IS(wasmloop_drop(&one), WASMLOOP_OK);
+    IS(wasmloop_drop(&other), WASMLOOP_OK);
+}
+
 /* what is answered of an instance between two slices */
 static void paused_call(void) {
     static const wasmloop_call_limits limits = { 1000000, 64, 0 };
@@ -490,6 +506,8 @@ int main(int argc, char **argv) {
     }
     calls_agree("countdown.wasm", "uv_main", 0, 20000, 64);
     calls_agree("digest.wasm", "uv_after_work", 3, 20000, 64);
+    bytes_change_nothing("countdown.wasm", "uv_main", 0);
+    bytes_change_nothing("digest.wasm", "uv_after_work", 3);
     paused();
     dropped();
     copies_end_slices();

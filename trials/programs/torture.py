@@ -35,7 +35,9 @@ def fetch(out: pathlib.Path) -> pathlib.Path:
     """The folder of the tests."""
     tests = out / "gcc" / "testsuite" / "gcc.c-torture" / "execute"
     if not tests.is_dir():
-        subprocess.run(["apt-get", "-q", "download", PACKAGE], cwd=out, check=True)
+        # (by the machine's own lists: those of .ci/nightly are of sources alone)
+        env = {name: value for name, value in os.environ.items() if name != "APT_CONFIG"}
+        subprocess.run(["apt-get", "-q", "download", PACKAGE], cwd=out, check=True, env=env)
         package, = out.glob(f"{PACKAGE}_*.deb")
         command = (f"dpkg-deb --fsys-tarfile {package.name} | tar -xO --wildcards './usr/src/gcc-12/gcc-12*.tar.xz'"
                    " | tar -xJ --strip-components=1 --wildcards '*/gcc/testsuite/gcc.c-torture/execute/*'")

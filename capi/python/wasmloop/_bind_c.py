@@ -13,7 +13,7 @@ WORDS = """alignas alignof and and_eq asm bitand bitor bool catch char16_t char3
     using virtual wchar_t xor xor_eq""".split()
 # Names that the functions use themselves.
 OWN = (*WORDS, "plugin", "status", "args", "areas", "result", "result_room", "strlen")
-TAKEN = Taken(WORDS, OWN, (*OWN, "it", "at"))
+TAKEN = Taken(WORDS, OWN, (*OWN, "it", "at", "main"))
 
 # Of all such headers; the first that is included brings it.
 HELPERS = r"""#ifndef WASMLOOP_BIND

@@ -22,20 +22,23 @@ typedef struct record {
     uint64_t ran;           /* callbacks that ended in a turn that is to be written */
     uint32_t number, steps; /* of the loop, as the host numbers it; steps in a row that are to be written */
     uint32_t counted;       /* the callbacks of the iteration, as its turns count them */
-    bool full, failed, paused; /* paused: a turn has begun the callback that is paused */
+    bool full, lost, failed, paused; /* lost: a part could not be written; paused: a turn has begun the callback that is paused */
     char path[PATH], buffer[BUFFER];
 } record;
 
-/* Appends the buffer to the file. */
+/* Appends the buffer to the file. Nothing is written behind a part that could not be: a record has no hole. */
 static void flush(record *r)
 {
-    int file = r->length ? open(r->path, O_WRONLY | O_APPEND | O_CLOEXEC) : -1;
-    for (size_t done = 0; file >= 0 && done < r->length;) {
+    size_t done = 0;
+    int file = r->length && !r->lost ? open(r->path, O_WRONLY | O_APPEND | O_CLOEXEC) : -1;
+    while (file >= 0 && done < r->length) {
         ssize_t n = write(file, r->buffer + done, r->length - done);
         if (n < 0 && errno != EINTR) break;
         if (n > 0) done += (size_t)n;
     }
-    if (file >= 0) close(file);
+    if (file >= 0 && close(file) != 0) r->lost = true;
+    r->lost |= done < r->length;
+    r->full |= r->lost;
     r->left -= r->length < r->left ? r->length : r->left;
     r->length = 0;
 }
@@ -81,7 +84,7 @@ static bool begin(record *r, const char *word, size_t more)
     if (!r || r->full) return false;
     if (BUFFER - r->length < 2 * LINE) flush(r);
     put_steps(r);
-    r->full = r->left < BUFFER + 2 * more;
+    r->full |= r->left < BUFFER + 2 * more;
     put(r, r->full ? "[\"full\"]\n" : word);
     if (r->full) flush(r);
     return !r->full;

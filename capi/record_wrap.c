@@ -10,13 +10,15 @@
      WASMLOOP_RECORD_KEEP=failed removes a loop's file when the loop is dropped, unless a callback or a work function did not return
 
    `python3 -m wasmloop.replay FOLDER/loop.1` runs the loop again. A replay begins at the first line, so a file has the whole history of its
-   loop, or its beginning. A handle is identified by what it points to, which stays where the handle is moved. */
+   loop, or its beginning: once the disk is full, or no descriptor is free, no more is written to it. A handle is identified by what it points to,
+   which stays where the handle is moved. */
 #include "record_file.h"
 #include "wasmloop.h"
 
 #define REAL(name, ...) int __real_wasmloop_##name(__VA_ARGS__); int __wrap_wasmloop_##name(__VA_ARGS__)
 typedef wasmloop_handle handle;
 REAL(load, const uint8_t *, size_t, handle *, wasmloop_fault *);
+REAL(load_told, const uint8_t *, size_t, handle *, wasmloop_fault *, char *, size_t, uint64_t *);
 REAL(share, const handle *, handle *);
 REAL(loop, const handle *, const wasmloop_limits *, handle *);
 REAL(drop, handle *);
@@ -119,15 +121,26 @@ __attribute__((destructor)) static void flush_all(void)
 
 /* ---- the calls ---- */
 
-int __wrap_wasmloop_load(const uint8_t *bytes, size_t length, handle *module, wasmloop_fault *fault)
+/* Keeps the bytes of a module, if it is loaded. Returns the status. */
+static int loaded(int status, const uint8_t *bytes, size_t length, const handle *module)
 {
-    int status = __real_wasmloop_load(bytes, length, module, fault);
     code *c = status == WASMLOOP_OK && getenv("WASMLOOP_RECORD") ? calloc(1, sizeof *c + length) : NULL;
     if (!c) return status;
     c->length = length;
     memcpy(c->bytes, bytes, length);
     if (!keep(module->at, c, NULL)) free(c);
     return status;
+}
+
+int __wrap_wasmloop_load(const uint8_t *bytes, size_t length, handle *module, wasmloop_fault *fault)
+{
+    return loaded(__real_wasmloop_load(bytes, length, module, fault), bytes, length, module);
+}
+
+int __wrap_wasmloop_load_told(const uint8_t *bytes, size_t length, handle *module, wasmloop_fault *fault, char *into, size_t room,
+    uint64_t *count)
+{
+    return loaded(__real_wasmloop_load_told(bytes, length, module, fault, into, room, count), bytes, length, module);
 }
 
 int __wrap_wasmloop_share(const handle *module, handle *other)

@@ -55,6 +55,16 @@ if [ -f "$out/racy.wasm" ]; then
 fi
 echo 'recorder for C: limit and removal'
 
+# a host that is told why a module is rejected; a record that can't be written for a while is a beginning, which can be run again
+cc -std=c11 -D_GNU_SOURCE -Wall -Wextra -Werror -g -O1 -fsanitize=address,undefined -fno-sanitize-recover -I"$top/capi/include" -o "$out/record_test" \
+    "$top/capi/test/record_test.c" "$top/capi/record_wrap.c" "$top/dist/libwasmloop.a" "-Wl,@$out/record_wrap.opts"
+rm -rf "$out/records" && mkdir "$out/records"
+WASMLOOP_RECORD=$out/records "$out/record_test" "$top/examples" "$out/records" > "$out/said" || { echo 'FAILED: record_test'; cat "$out/said"; exit 1; }
+for number in 1 2 3; do
+    python3 -m wasmloop.replay "$out/records/loop.$number" > "$out/log" || { echo "FAILED: record_test's record $number"; exit 1; }
+done
+echo 'recorder for C: loads that say why not, and records that could not be written whole'
+
 # the edge server's -r: two requests within one millisecond make its guest fail, and the record fails in the same line
 if [ ! -f /usr/include/llhttp.h ] && [ ! -f /usr/include/http_parser.h ] || [ ! -f "$out/racy.wasm" ]; then
     echo 'skipped: records of the edge server: an HTTP parser or clang is missing'

@@ -100,10 +100,11 @@ void explain(task *k, wasmloop_handle *of, const char *how, uint32_t trap, uint6
 tenant *tenant_of(const char *name, bool make);
 void tenant_changed(const char *file), refuse(client *c), tenants_sweep(bool all), tenants_reload(void);
 size_t read_module(const tenant *t, const uint8_t **bytes);
+FILE *open_named(const char *name);
 FILE *open_file(const tenant *t, const char *kind);
 
 /* lines.c */
-void add_line(const tenant *t, const uint8_t *bytes, size_t length, char said[SAID]);
+void add_line(const tenant *t, wasmloop_handle *of, char said[SAID]);
 
 /* loops.c */
 void ask(client *c, tenant *t, uint32_t op), send_to(client *c, tenant *t, uint32_t async);

@@ -30,13 +30,15 @@ static void find_place(FILE *file, uint64_t byte, char place[MOST_PLACE]) {
     }
 }
 
-/* In a pool thread: inserts " [FILE:LINE]" after the first "at byte N" of a failure, if it is known. */
-void add_line(const tenant *t, const uint8_t *bytes, size_t length, char said[SAID]) {
+/* In a pool thread: inserts " [FILE:LINE]" after the first "at byte N" of a failure, if it is known. The module's file may be another one by now. */
+void add_line(const tenant *t, wasmloop_handle *of, char said[SAID]) {
     char place[MOST_PLACE] = "-", whole[SAID + MOST_PLACE], *at = strstr(said, "at byte "), *end;
     FILE *file = at ? open_file(t, "lines") : NULL;
     if (!file) return;
-    uint64_t byte = strtoull(at + 8, &end, 10);
-    if (is_of(file, bytes, length)) find_place(file, byte, place);
+    uint64_t byte = strtoull(at + 8, &end, 10), n;
+    const uint8_t *bytes;
+    size_t length = read_module(t, &bytes);
+    if (bytes && wasmloop_stop_told(bytes, length, of, NULL, 0, &n) == WASMLOOP_OK && is_of(file, bytes, length)) find_place(file, byte, place);
     fclose(file);
     for (char *p = place; *p; p++)
         if (!isprint((unsigned char)*p)) return;

@@ -242,9 +242,8 @@ static void write_log_of(FILE *to, const tenant *t) {
 }
 
 static bool write_file(FILE *to, const char *name) {
-    char path[512], part[4096];
-    snprintf(path, sizeof path, "%s/%s", folder, name);
-    FILE *file = fopen(path, "rb");
+    char part[4096];
+    FILE *file = open_named(name);
     if (!file) return false;
     for (size_t n; (n = fread(part, 1, sizeof part, file)) > 0;) fwrite(part, 1, n, to);
     fclose(file);

@@ -14,17 +14,24 @@
 struct tenants tenants;
 static void *names; /* the tree of their names */
 
-/* Opens NAME.KIND of the folder; NULL, with errno, if it can't be read, or is no file: to open a FIFO would wait for its writer. */
-FILE *open_file(const tenant *t, const char *kind) {
+/* Opens a file of the folder. NULL, with errno: it can't be read, or is no regular file; to open a FIFO would wait for its writer. */
+FILE *open_named(const char *name) {
     char path[512];
     struct stat is;
-    snprintf(path, sizeof path, "%s/%s.%s", folder, t->name, kind);
+    snprintf(path, sizeof path, "%s/%s", folder, name);
     int fd = open(path, O_RDONLY | O_NONBLOCK | O_CLOEXEC);
     if (fd < 0) return NULL;
     errno = EINVAL;
     FILE *file = fstat(fd, &is) == 0 && S_ISREG(is.st_mode) ? fdopen(fd, "rb") : NULL;
     if (!file) close(fd);
     return file;
+}
+
+/* Opens NAME.KIND of the folder. */
+FILE *open_file(const tenant *t, const char *kind) {
+    char name[80];
+    snprintf(name, sizeof name, "%s.%s", t->name, kind);
+    return open_named(name);
 }
 
 /* ---- a module ---- */
@@ -119,8 +126,9 @@ static void read_limits(tenant *t) {
         [OUT] = { "out", 32768, 1, 1 << 30 } };
     char key[32], value[64];
     FILE *file = open_file(t, "conf");
-    bool first = t->limits[FUEL] == 0;
+    bool first = t->limits[FUEL] == 0, was = t->unread;
     t->unread = !file && errno != ENOENT; /* (its limits stay until it can be read) */
+    if (t->unread && !was) fprintf(stderr, "edge: %s.conf: %s: the %s limits until it can be read\n", t->name, strerror(errno), first ? "usual" : "old");
     if (t->unread && !first) return;
     for (int i = 0; i < LIMITS; i++) t->limits[i] = known[i].usual;
     if (workers > 2) t->limits[RUN] = workers - 1;
@@ -180,12 +188,13 @@ void tenants_reload(void) {
     }
 }
 
-/* Removes tenants without a file, or all, once no request needs them. */
+/* Does again what could not be done. Removes tenants without a file, or all, once no request needs them. */
 void tenants_sweep(bool all) {
     for (tenant *t = LIST_FIRST(&tenants), *next; t; t = next) {
         next = LIST_NEXT(t, next);
         if (t->unread) read_limits(t);
         if (t->changed) load(t);
+        if (t->lives && !t->loop && !t->load) make_loop(t); /* (there was no memory for it) */
         if ((t->status != ABSENT && !all) || t->waiting || t->running || t->clients || t->load) continue;
         LIST_REMOVE(t, next);
         tdelete(t->name, &names, by_name);

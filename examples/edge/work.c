@@ -23,22 +23,16 @@ static uint64_t cpu_now(void) {
     return (uint64_t)at.tv_sec * 1000000000u + (uint64_t)at.tv_nsec;
 }
 
-/* Writes how a job or a callback failed, and where: as `wasmloop` does, with the source line if it is known; or, if the module's file has been
- * replaced, by the index among the module's own functions. */
+/* Writes how a job or a callback failed, and where: as `wasmloop` does, with the source line if it is known. */
 void explain(task *k, wasmloop_handle *of, const char *how, uint32_t trap, uint64_t used) {
-    wasmloop_site site;
     uint64_t n = 0;
-    const uint8_t *bytes;
     int said = snprintf(k->said, SAID, "%s%s%s, after %llu units", how, trap ? ", " : "", trap ? wasmloop_trap_name(trap) : "", U(used));
-    if (wasmloop_stop(of, &site, 1, &n) != WASMLOOP_OK || n == 0) return;
-    char *where = k->said + said + snprintf(k->said + said, SAID - said, ", ");
-    size_t room = (size_t)(k->said + SAID - 1 - where), length = read_module(k->of, &bytes);
-    if (bytes && wasmloop_stop_told(bytes, length, of, where, room, &n) == WASMLOOP_OK) {
-        where[n < room ? n : room] = 0;
-        add_line(k->of, bytes, length, k->said);
-    } else {
-        snprintf(where, room + 1, "in its own function %llu, instruction %llu", U(site.function), U(site.operation));
-    }
+    char *where = k->said + said + 2;
+    size_t room = (size_t)(k->said + SAID - 1 - where);
+    if (wasmloop_stop_told(NULL, 0, of, where, room, &n) != WASMLOOP_OK) return;
+    memcpy(where - 2, ", ", 2);
+    where[n < room ? n : room] = 0;
+    add_line(k->of, of, k->said);
 }
 
 /* Runs a job in slices until it ends, its deadline passes, its client disconnects, or, after half a millisecond, another tenant waits. */

@@ -65,7 +65,6 @@ const char *wasmloop_ending_name(uint32_t ending) { return (void)ending, "?"; }
 #define NEVER(name, ...) int name(__VA_ARGS__) { return WASMLOOP_NONE; }
 NEVER(wasmloop_explain, const uint8_t *a, size_t b, char *c, size_t d, uint64_t *e)
 NEVER(wasmloop_load_told, const uint8_t *a, size_t b, wasmloop_handle *c, wasmloop_fault *d, char *e, size_t f, uint64_t *g)
-NEVER(wasmloop_stop, wasmloop_handle *a, wasmloop_site *b, size_t c, uint64_t *d)
 NEVER(wasmloop_stop_told, const uint8_t *a, size_t b, wasmloop_handle *c, char *d, size_t e, uint64_t *f)
 NEVER(wasmloop_share, const wasmloop_handle *a, wasmloop_handle *b)
 NEVER(wasmloop_loop, const wasmloop_handle *a, const wasmloop_limits *b, wasmloop_handle *c)

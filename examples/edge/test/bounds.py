@@ -15,7 +15,7 @@ import tempfile
 import time
 from functools import partial
 
-from server import EDGE, ENDLESS, GUESTS, MIB, Server, broken_too, check, check_log, head, may_open, put, read_head, readable, until
+from server import EDGE, ENDLESS, GUESTS, HERE, MIB, Server, broken_too, check, check_log, head, may_open, put, read_head, readable, until
 
 
 def crowds(s: Server) -> None:
@@ -121,6 +121,19 @@ def short(s: Server) -> None:
     check(503 in got and set(got) <= {200, 503}, "want of memory", got)
     resource.prlimit(s.process.pid, resource.RLIMIT_AS, (resource.RLIM_INFINITY, resource.RLIM_INFINITY))
     s.wants("memory again", 200, "", "/bombs")
+
+
+def later_loop() -> None:
+    """A loop for which there was no memory is made later."""
+    with tempfile.TemporaryDirectory() as room:
+        refuses = f"{room}/refuse_loop.so"
+        subprocess.run(["cc", "-shared", "-fPIC", "-o", refuses, HERE / "refuse_loop.c"], check=True)
+        s = Server(within=("env", f"LD_PRELOAD={refuses}"))
+        s.wants("before a loop", 200, "hello, you", "/hello", b"you")
+        if not s.shadowed():  # (a sanitizer allocates by itself)
+            s.wants("no memory for a loop", 503, "no memory", "/limiter/ask", b"10.0.0.7")
+            until("a loop that is made later", lambda: s.ask("/limiter/ask", b"10.0.0.7")[:2] == (200, b"1\n"))
+        s.end()
 
 
 def descriptors() -> None:
@@ -234,4 +247,5 @@ def bounds() -> None:
     s.wants("after crowds", 200, "hello, you", "/hello", b"you")
     s.end()
     unread()
+    later_loop()
     descriptors()

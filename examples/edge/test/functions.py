@@ -220,8 +220,22 @@ def changes(s: Server) -> None:
     s.wants("and back", 200, "hello, abc", "/mine", b"abc")
     os.mkfifo(s.folder / "fifo.wasm")
     os.mkfifo(s.folder / "crc32.lines")
+    os.mkfifo(s.folder / "unset.conf")
+    put(s, "unset.wasm", hello)
     check(s.ask("/fifo")[0] >= 400, "a FIFO as a module")
+    s.wants("a FIFO as limits", 200, "hello, abc", "/unset", b"abc")
     s.wants("beside a FIFO", 200, "hello, abc", "/mine", b"abc")
+
+
+def replaced(s: Server) -> None:
+    """A failure has its place also where the module's file is another one by now, which is rejected; the source lines of that one are not its own."""
+    put(s, "old.wasm", (GUESTS / "trap.wasm").read_bytes())
+    s.wants("a failure", 500, DIVISION, "/old/0")
+    other = b"no module"
+    (s.folder / "old.lines").write_text(f"module {len(other)} {zlib.adler32(other)}\n0 other.c:1\n")
+    put(s, "old.wasm", other)
+    until("its file is rejected", lambda: b"old\told\t" in s.ask("/-/tenants", None, "GET")[1])
+    s.wants("a failure of a module whose file is another one", 500, rf"{DIVISION} \d+\n$", "/old/0")
 
 
 def has_asked(s: Server, name: str) -> bool:
@@ -279,6 +293,9 @@ def numbers(s: Server) -> None:
             check(value <= values["edge_latency_worst_seconds", tenant] + 1e-6, "a quantile above the worst", labels, value)
     s.wants("the page", 200, "<title>edge", "/-/", None, method="GET")
     s.wants("no page", 404, "no such page", "/-/nothing", None, method="GET")
+    (s.folder / "dashboard.html").unlink()
+    os.mkfifo(s.folder / "dashboard.html")
+    s.wants("a FIFO as the page", 404, "no such page", "/-/", None, method="GET")
     s.wants("its last failure", 200, "trap\tready\t0\t\t.*unreachable", "/-/tenants", None, method="GET")
 
 
@@ -286,11 +303,14 @@ def functions() -> None:
     broken_too()
     s = Server("-t", "30", hog=HOG, spin="fuel 1000000\n", slow=f"{ENDLESS}queue 2\nrun 1\ndeadline 2000\n", flood="fuel 1000000\ncallback 200000\n",
                late=f"{ENDLESS}run 1\ndeadline 50\n", hello="type text/plain\n", mute="deadline 300\n", limiter="queue 4\n", crowd="queue 200\n",
-               deep="depth 32\n", dead=f"{ENDLESS}deadline 200\n", long0=LONG, long1=LONG, long2=LONG, mine="", moves="", leaves="", stays="")
-    parts: list[Part] = [statuses, methods, lines, queues, deadlines, hogs, slices, rests, loops, changes, loops_change, many, numbers]
+               deep="depth 32\n", dead=f"{ENDLESS}deadline 200\n", long0=LONG, long1=LONG, long2=LONG, mine="", moves="", leaves="", stays="",
+               old="")
+    parts: list[Part] = [statuses, methods, lines, queues, deadlines, hogs, slices, rests, loops, changes, replaced, loops_change, many, numbers]
     for part in parts:
         began = time.time()
         part(s)
         if time.time() - began > 10:
             print(f"test: {getattr(part, '__name__', part)} took {time.time() - began:.0f} s")
     s.end()
+    told = "edge: unset.conf: Invalid argument: the usual limits until it can be read\n"
+    check(s.said.count(told) == 1, "limits that can't be read are told once", s.said)

@@ -62,6 +62,7 @@ class Server:
     """The program on a folder of its own and a free port. Deadlines are long by default: a busy machine is no failure."""
 
     process: subprocess.Popen[str]
+    said = ""  # on standard error, once it has ended
 
     def __init__(self, *options: str, python: bool = False, log: IO[str] | int | None = None, within: tuple[str, ...] = (), **confs: str) -> None:
         self.folder = pathlib.Path(tempfile.mkdtemp())
@@ -137,7 +138,7 @@ class Server:
     def end(self) -> None:
         """Sends SIGTERM: it must exit with 0, and a sanitizer must have reported nothing."""
         self.process.send_signal(signal.SIGTERM)
-        said = self.process.communicate(timeout=120)[1]
+        self.said = said = self.process.communicate(timeout=120)[1]
         check(self.process.returncode == 0, "its end", self.process.returncode, said[-2000:])
         check("anitizer" not in said and "runtime error" not in said, "a sanitizer", said[:3000])
         if not self.python and not isinstance(self.log, int):

@@ -3,8 +3,8 @@
 usage: WASMLOOP_LIBRARY=libwasmloop.so PYTHONPATH=capi/python python3 edge.py FOLDER [PORT [WORKERS]]
 
 POST /NAME[/OP] runs uv_work(OP) of FOLDER/NAME.wasm on the body; FOLDER/NAME.conf may have lines such as "fuel 2000000". The request that finds
-a file changed reads it again; if a module is rejected, the old one stays. README.md has the statuses. A job runs in slices of SLICE units, and
-deadlines are checked between them. A running job does not yield to others."""
+a file changed reads it again; if a module is rejected, or a file can't be read, the old one stays. README.md has the statuses. A job runs in slices
+of SLICE units, and deadlines are checked between them. A running job does not yield to others."""
 import asyncio
 import bisect
 import collections
@@ -41,32 +41,45 @@ class Tenant:
     counted: collections.Counter[str]
 
     def __init__(self, name: str) -> None:
-        self.name, self.module, self.bytes, self.said, self.stamps, self.loading = name, None, b"", "", {}, asyncio.Lock()
+        self.name, self.module, self.bytes, self.stamps, self.loading = name, None, b"", {}, asyncio.Lock()
+        self.limits, self.type, self.said = {}, TYPE, {".conf": "", ".wasm": ""}  # said: why a file is not taken
         self.waiting, self.running, self.share, self.mean = collections.deque(), 0, 0.0, 0.0
         self.counted, self.used, self.cpu = collections.Counter(), 0, 0.0
 
-    def changed(self, suffix: str) -> pathlib.Path | None:
-        """The path of its file with this suffix, if it has changed since it was last seen."""
+    def read(self, suffix: str) -> bytes | None:
+        """The bytes of its file with this suffix, none if there is no such file; None if it is the one that was read last. What can't be read is read again
+        at the next request. To open a FIFO would wait for its writer."""
         path = FOLDER / (self.name + suffix)
         stat = path.stat() if path.exists() else None
-        before, self.stamps[suffix] = self.stamps.get(suffix, 0), (stat.st_mtime_ns, stat.st_size, stat.st_ino) if stat else None
-        return path if self.stamps[suffix] != before else None
+        stamp = (stat.st_mtime_ns, stat.st_size, stat.st_ino) if stat else None
+        if stamp == self.stamps.get(suffix, 0):
+            return None
+        if stat and not path.is_file():
+            raise OSError(f"{path.name} is not a regular file")
+        data = path.read_bytes() if stat else b""
+        self.stamps[suffix] = stamp
+        return data
+
+    async def take_limits(self, data: bytes) -> None:
+        words = data.decode().split()
+        given = list(zip(words[::2], words[1::2]))
+        self.limits = LIMITS | {"run": max(1, WORKERS - 1)} | {k: int(v) for k, v in given if k != "type"}
+        self.type = dict(given).get("type", TYPE)
+
+    async def take_module(self, data: bytes) -> None:
+        self.module, self.bytes = await LOOP.run_in_executor(POOL, wasmloop.Module, data), data
 
     async def fresh(self) -> wasmloop.Module | None:
-        """Reads its files if they have changed, the module in a thread."""
+        """Takes its files if they have changed, the module in a thread. Returns the module, None without one or without limits."""
         async with self.loading:
-            if path := self.changed(".conf"):
-                words = path.read_text().split() if path.exists() else []
-                given = list(zip(words[::2], words[1::2]))
-                self.limits = LIMITS | {"run": max(1, WORKERS - 1)} | {k: int(v) for k, v in given if k != "type"}
-                self.type = dict(given).get("type", TYPE)
-            if path := self.changed(".wasm"):
+            for suffix, take in (".conf", self.take_limits), (".wasm", self.take_module):
                 try:
-                    data = path.read_bytes()
-                    self.module, self.bytes, self.said = await LOOP.run_in_executor(POOL, wasmloop.Module, data), data, ""
-                except (OSError, wasmloop.Error) as error:
-                    self.said = str(error)
-        return self.module
+                    if (data := self.read(suffix)) is not None:
+                        await take(data)
+                        self.said[suffix] = ""
+                except (OSError, ValueError, wasmloop.Error) as error:
+                    self.said[suffix] = str(error)
+        return self.module if self.limits else None
 
 
 tenants: dict[str, Tenant] = {}
@@ -144,7 +157,7 @@ async def work(request: web.Request) -> web.Response:
     data, until = await request.read(), time.monotonic()
     module, waits = await tenant.fresh(), sum(len(t.waiting) for t in active)
     if not module:
-        return told(tenant, 500, tenant.said)
+        return told(tenant, 500, "; ".join(filter(None, tenant.said.values())))
     reasons = ((op >= 2**32, 400, "an operation is a number below 2^32"),
                (OVER.is_set(), 503, "the server is shutting down"), (waits >= MOST_WAITING, 503, "the server's queue is full"),
                (len(tenant.waiting) >= tenant.limits["queue"], 429, "its queue is full"))

@@ -2,6 +2,7 @@
 import contextlib
 import os
 import re
+import resource
 import subprocess
 import tempfile
 
@@ -53,11 +54,40 @@ def alike(s: Server) -> None:
     other.end()
 
 
+def unreadable(s: Server) -> None:
+    """edge.py reads a file that it could not read again; meanwhile the old one serves, and a tenant without one says why it fails. A FIFO stops nothing."""
+    hello, crc = (GUESTS / "hello.wasm").read_bytes(), (GUESTS / "crc32.wasm").read_bytes()
+    put(s, "mine.wasm", hello)
+    for name in "fifo.wasm", "unset.conf":
+        os.mkfifo(s.folder / name)
+    put(s, "unset.wasm", hello)
+    s.wants("a FIFO as a module", 500, "fifo.wasm is not a regular file", "/fifo")
+    s.wants("a FIFO as limits", 500, "unset.conf is not a regular file", "/unset")
+    put(s, "unset.conf", b"type text/html")
+    check(s.ask("/unset", b"abc")[2]["Content-Type"] == "text/html", "limits in place of a FIFO")
+    with contextlib.closing(s.link()) as link:
+
+        def ask() -> bytes:
+            link.request("POST", "/mine", b"abc")
+            answer = link.getresponse()
+            got: bytes = answer.read() + answer.headers["Content-Type"].encode()
+            return got
+
+        check(ask() == b"hello, abctext/plain", "before")
+        most = resource.prlimit(s.process.pid, resource.RLIMIT_NOFILE)
+        resource.prlimit(s.process.pid, resource.RLIMIT_NOFILE, (1, most[1]))
+        put(s, "mine.wasm", crc)
+        put(s, "mine.conf", b"type text/html")
+        check(ask() == b"hello, abctext/plain", "without descriptors")
+        resource.prlimit(s.process.pid, resource.RLIMIT_NOFILE, most)
+        check(ask() == b"\x35\x24\x41\xc2text/html", "files that could not be read are read again")
+
+
 def python() -> None:
     """edge.py, for which WASMLOOP_LIBRARY and PYTHONPATH must name the library."""
     broken_too()
     s = Server(python=True, hog=HOG, spin="fuel 1000000\n", slow=f"{ENDLESS}queue 2\nrun 1\ndeadline 2000\n", late=f"{ENDLESS}run 1\ndeadline 2000\n",
-               hello="type text/plain\n")
+               hello="type text/plain\n", mine="type text/plain\n")
     s.wants("greeting", 200, "^hello, you$", "/hello", b"you")
     s.wants("no tenant", 404, "no such tenant", "/nobody")
     s.wants("division", 500, DIVISION, "/trap/0")
@@ -74,6 +104,7 @@ def python() -> None:
     s.wants("the longest body", 200, "", "/crc32", bytes(65536))
     s.wants("a longer body", 413, "", "/crc32", bytes(65537))
     queues(s)
+    unreadable(s)
     put(s, "hello.wasm", (GUESTS / "crc32.wasm").read_bytes())
     until("a new module", lambda: s.ask("/hello", b"abc")[1] == b"\x35\x24\x41\xc2")
     put(s, "hello.wasm", b"no module")

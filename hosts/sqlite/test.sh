@@ -43,6 +43,7 @@ for each in "plugin('r', 'nothing', 1)" "plugin('r', 'score')" "plugin('r', 'sco
     "plugin('r', 'slug', zeroblob(3000000))" "plugin('r', 'slug', 'a', 'b')" "load_plugin('q', NULL)" "load_plugin(NULL, x'')" "load_plugin('q', x'00', 0)" "load_plugin('q', x'00', 5, 500)" "plugin_work('none', 0, '')"; do
     like "$(sql "SELECT $each")" "*[Ee]rror*" "$each"
 done
+like "$(sql "SELECT load_plugin('q', readfile('$room/none.wasm'))")" "*load_plugin: the module is NULL, as readfile() is of a file that it can't read*" "a file that is not there"
 for each in $(rejected); do like "$(sql "SELECT load_plugin('bad', readfile('$room/$each.wasm'))")" "*plugin bad: rejected: *" "a rejected module: $each"; done
 like "$(sql "CREATE TABLE t(x)" "CREATE INDEX i ON t(plugin('r', 'score', x))")" "*non-deterministic functions prohibited*" "no index over a plug-in"
 like "$(sql "CREATE VIEW v AS SELECT load_plugin('s', x'')" "SELECT * FROM v")" "*unsafe use of load_plugin()*" "no view loads one"

@@ -103,12 +103,14 @@ static void put(registry *r, plugin *p)
 static void load_plugin(sqlite3_context *c, int count, sqlite3_value **v)
 {
     registry *r = sqlite3_user_data(c);
+    const int none = sqlite3_value_type(v[1]) == SQLITE_NULL;
     const char *name = (const char *)sqlite3_value_text(v[0]);
     const void *bytes = sqlite3_value_blob(v[1]);
     sqlite3_int64 fuel = count > 2 ? sqlite3_value_int64(v[2]) : 1000000, depth = count > 3 ? sqlite3_value_int64(v[3]) : 64;
     char why[300];
     wasmloop_ended ended;
     if (!name) return sqlite3_result_error(c, "load_plugin: the name is NULL", -1);
+    if (none) return sqlite3_result_error(c, "load_plugin: the module is NULL, as readfile() is of a file that it can't read", -1);
     if (fuel < 1 || depth < 1 || depth > 128) return sqlite3_result_error(c, "load_plugin: fuel from 1, depth 1 to 128", -1);
     plugin *p = sqlite3_malloc64(sizeof *p + strlen(name));
     if (!p) return sqlite3_result_error_nomem(c);

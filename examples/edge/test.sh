@@ -5,9 +5,13 @@
 # usage: test.sh [LIBRARY [PART..]]     LIBRARY: a folder with libwasmloop.a, and maybe wasmloop.h and libwasmloop.so.0 (else dist/ at the top);
 #                                       PART: plain, addresses, threads (else these three), or long: ten thousand idle connections, and hostile clients
 #                                       and tenants, under the sanitizers too; bench/soak.py for SOAK seconds (600); bench/proxies.py, for root
+#
+# Ends with 1 if a test fails, with 2 if LIBRARY has no library or PART is none of these.
 set -u
 here=$(cd "$(dirname "$0")" && pwd) top=$(cd "$(dirname "$0")/../.." && pwd)
-library=$(readlink -f "${1:-$top/dist}") out=$(mktemp -d) failed=0
+given=${1:-$top/dist}
+[ -f "$given/libwasmloop.a" ] || { echo "edge: there is no file $given/libwasmloop.a" >&2; exit 2; }
+library=$(readlink -f "$given") out=$(mktemp -d) failed=0
 trap 'rm -rf "$out"' EXIT
 [ $# = 0 ] || shift
 [ $# -gt 0 ] || set -- plain addresses threads
@@ -73,7 +77,6 @@ source_lines() {
         python3 "$here/lines.py" "$out/guests/trap.wasm" "$out/trap.build" > "$out/guests/trap.lines" || { say 'FAILED: lines.py'; failed=1; }
 }
 
-if [ ! -f "$library/libwasmloop.a" ]; then left_out "all: there is no $library/libwasmloop.a"; exit 0; fi
 if ! pkg-config --exists libuv; then left_out "all: there is no libuv"; exit 0; fi
 if ! pkg-config --exists libllhttp && ! echo '#include <http_parser.h>' | cc -E - > /dev/null 2>&1; then left_out "all: there is no HTTP parser"; exit 0; fi
 if ! has clang || ! has wasm-ld; then left_out "all: there is no clang with wasm-ld for the guests"; exit 0; fi

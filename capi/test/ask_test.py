@@ -242,6 +242,16 @@ def examples() -> None:
         print(f"questions: 500 plug-ins in {language} waited in one thread, {units / 20:.0f} units a question")
 
 
+def sentences() -> None:
+    """The host in C says what is wrong with its file."""
+    (OUT / "cut.wasm").write_bytes((TOP / "examples" / "countdown.wasm").read_bytes()[:30])
+    for file, said in ((OUT / "no.wasm", f"{OUT}/no.wasm: No such file or directory\n"),
+                       (OUT / "cut.wasm", "byte 30: section 1 declares 31 bytes; bytes left: 20 (cut short? copy or build it again)\n"),
+                       (TOP / "examples" / "sha256.wasm", "the module lacks the function total, or those of a plug-in that asks\n")):
+        done = subprocess.run([OUT / "host", file, "1", "1"], capture_output=True, check=False, text=True)
+        same(f"what the host in C says of {file.name}", (done.returncode, done.stdout, done.stderr), (1, "", said))
+
+
 def in_rust() -> Optional[bytes]:
     """The plug-in in Rust, by a rustc that has the target: Debian's, or the first in PATH."""
     for rustc in ("/usr/bin/rustc", shutil.which("rustc")):
@@ -378,7 +388,7 @@ def main() -> int:
         if not shutil.which(tool):
             print(f"left out: questions: there is no {tool}")
             return 0
-    for part in (fuzz, examples, host_in_rust, never, named, typed, faults):
+    for part in (fuzz, examples, sentences, host_in_rust, never, named, typed, faults):
         part()
     return expecting.wrong != 0
 

@@ -18,6 +18,16 @@ fail() { say "FAILED: $*"; failed=1; }
 left_out() { say "left out: $*"; }
 try() { "$@" > "$out/said" 2>&1 || { fail "$*"; cat "$out/said"; }; }
 
+# Whether a command ends with this status, and its standard error has a line like this: the status, the pattern, the command.
+says() {
+    status=$1 pattern=$2
+    shift 2
+    "$@" > "$out/printed" 2> "$out/said"
+    [ $? = "$status" ] && grep -q -e "$pattern" "$out/said" && return
+    fail "what $* says"
+    cat "$out/said"
+}
+
 # Whether a command ends with a report of a data race.
 reports() {
     timeout 60 "$@" > "$out/said" 2>&1 && return 1
@@ -182,6 +192,9 @@ counts='3 2 1 0 0'
 # shellcheck disable=SC2086
 try cc $c -o "$out/first_loop" "$hosts/c/first_loop.c" "$lib/libwasmloop.a"
 [ "$("$out/first_loop" "$examples/countdown.wasm" | xargs)" = "$counts" ] || fail "first_loop.c"
+head -c 30 "$examples/countdown.wasm" > "$out/cut.wasm"
+says 4 '^a callback did not return: call-depth limit exceeded, after 64 units, in function 0, ' "$out/first_loop" "$examples/endless.wasm"
+says 5 '^byte 30: section 1 declares 31 bytes; ' "$out/first_loop" "$out/cut.wasm"
 
 if command -v pkg-config > /dev/null; then
     export PKG_CONFIG_PATH="$lib/pkgconfig"
@@ -236,6 +249,8 @@ if [ -f /usr/include/uv.h ]; then
     compare 'host_uv in real time' '--loops 2 --workers 1' "'$out/host_uv' 2 < \"\$1\"" counted
     prints host_uv cancels "$cancelled" "'$out/host_uv' 1 < \"\$1\""
     prints host_uv waits 'loop 0 over emits 1 121 0' "'$out/host_uv' 1 1 < \"\$1\""
+    says 2 '^usage: host_uv LOOPS \[SENDS\] < FILE' "$out/host_uv"
+    says 1 '^host_uv: load: byte 30: section 1 declares 31 bytes; ' "$out/host_uv" 1 < "$out/cut.wasm"
 else left_out "the libuv host: libuv1-dev is not there"; fi
 
 if command -v python3 > /dev/null; then
@@ -246,6 +261,7 @@ if command -v python3 > /dev/null; then
     prints host.py cancels "$cancelled" "python3 '$hosts/python/host.py' \"\$1\" 1"
     prints host_asyncio.py cancels "$cancelled" "python3 '$hosts/python/host_asyncio.py' \"\$1\""
     [ "$(python3 "$hosts/python/first_loop.py" "$examples/countdown.wasm" | tr -d '[]' | xargs)" = "$counts" ] || fail "first_loop.py"
+    says 1 '^a callback exceeded the call depth, in function 0, ' python3 "$hosts/python/first_loop.py" "$examples/endless.wasm"
     try python3 "$here/calls_test.py" "$examples" "$program"
     tail -1 "$out/said"
     if python3 -m pip --version > /dev/null 2>&1; then

@@ -48,8 +48,21 @@ static void turn(guest *g);
 
 static void must(int told, const char *what) {
     if (told == WASMLOOP_OK) return;
-    fprintf(stderr, "host_uv: %s: %s\n", what, wasmloop_status_name(told));
+    fprintf(stderr, "host_uv: %s: %s\n", what, wasmloop_status_text(told));
     exit(1);
+}
+
+static void load(wasmloop_handle *module) {
+    static uint8_t bytes[1 << 21];
+    wasmloop_fault fault;
+    char why[1000];
+    uint64_t count;
+    int told = wasmloop_load_told(bytes, fread(bytes, 1, sizeof bytes, stdin), module, &fault, why, sizeof why, &count);
+    if (told == WASMLOOP_REFUSED) {
+        fprintf(stderr, "host_uv: load: %.*s\n", (int)(count < sizeof why ? count : sizeof why), why);
+        exit(1);
+    }
+    must(told, "load");
 }
 
 static void on_timer(uv_timer_t *timer) { turn(timer->data); }
@@ -202,15 +215,16 @@ static void print_guest(guest *g) {
 }
 
 int main(int argc, char **argv) {
-    static uint8_t bytes[1 << 21];
     wasmloop_handle module = WASMLOOP_HANDLE_INIT;
-    wasmloop_fault fault;
     uv_thread_t thread;
     loops = argc > 1 ? (unsigned)atoi(argv[1]) : 0;
-    if (loops < 1 || loops > MAX_LOOPS) return 2;
+    if (loops < 1 || loops > MAX_LOOPS) {
+        fprintf(stderr, "usage: host_uv LOOPS [SENDS] < FILE, with 1 to %d LOOPS\n", MAX_LOOPS);
+        return 2;
+    }
     sends = argc > 2 ? (unsigned)atoi(argv[2]) : 0;
     jumps = getenv("VIRTUAL") != NULL;
-    must(wasmloop_load(bytes, fread(bytes, 1, sizeof bytes, stdin), &module, &fault), "load");
+    load(&module);
     began = uv_now(uv = uv_default_loop());
     for (unsigned i = 0; i < loops; i++) open_guest(&guests[i], &module, i);
     must(wasmloop_drop(&module), "drop");

@@ -5,7 +5,9 @@ usage: first_loop.py FILE
 
 import sys
 import time
-from wasmloop import ENTERED, FOREVER, RAN, Loop, Module
+from wasmloop import ENTERED, FOREVER, RAN, RETURN, Loop, Module
+
+ENDED = "returned", "trapped", "exceeded the call depth", "ran out of fuel"
 
 with Module.open(sys.argv[1]) as module, Loop(module) as loop:
     began = time.monotonic()
@@ -16,6 +18,8 @@ with Module.open(sys.argv[1]) as module, Loop(module) as loop:
         turned = loop.turn()
         if turned.did.what == RAN:                  # a callback emitted values, or did not return
             print(loop.emits())
+            if turned.did.ending != RETURN:
+                sys.exit(f"a callback {ENDED[turned.did.ending]}, {loop.stop_told()}")
         elif turned.did.what != ENTERED or turned.wait == FOREVER:
             break                                   # it is over, has failed, or waits for a send
         elif turned.wait:

@@ -19,8 +19,10 @@ typedef struct cart {
 static size_t read_file(const char *name, uint8_t *bytes)
 {
     FILE *file = fopen(name, "rb");
-    if (!file)
-        return 0;
+    if (!file) {
+        perror(name);
+        exit(1);
+    }
     size_t length = fread(bytes, 1, MOST_BYTES, file);
     fclose(file);
     return length;
@@ -71,18 +73,32 @@ static int serve(cart *carts, size_t count)
     return status;
 }
 
+/* Says why the module is rejected, or what a call returned. Returns the program's status. */
+static int say(int status, const char *why, uint64_t length)
+{
+    if (status == WASMLOOP_REFUSED)
+        fprintf(stderr, "%.*s\n", (int)length, why);
+    else if (status == WASMLOOP_NONE)
+        fprintf(stderr, "the module lacks the function total, or those of a plug-in that asks\n");
+    else if (status != WASMLOOP_OK)
+        fprintf(stderr, "%s\n", wasmloop_status_text(status));
+    return status != WASMLOOP_OK;
+}
+
 int main(int argc, char **argv)
 {
     static uint8_t bytes[MOST_BYTES];
     static cart carts[MOST_CALLS];
     wasmloop_handle module = WASMLOOP_HANDLE_INIT;
     wasmloop_fault fault;
+    char why[1000];
+    uint64_t length = 0;
     size_t count = argc == 4 ? strtoul(argv[2], NULL, 10) : 0;
     if (!count || count > MOST_CALLS) {
         fprintf(stderr, "usage: host CART.wasm CALLS ARTICLES\n");
         return 2;
     }
-    int status = wasmloop_load(bytes, read_file(argv[1], bytes), &module, &fault);
+    int status = wasmloop_load_told(bytes, read_file(argv[1], bytes), &module, &fault, why, sizeof why, &length);
     for (size_t i = 0; i < count && status == WASMLOOP_OK; i++)
         status = begin(&module, &carts[i], strtoul(argv[3], NULL, 10) + i % 10);
     if (status == WASMLOOP_OK)
@@ -95,7 +111,5 @@ int main(int argc, char **argv)
         wasmloop_drop(&carts[i].plugin);
     }
     wasmloop_drop(&module);
-    if (status != WASMLOOP_OK)
-        fprintf(stderr, "%s\n", wasmloop_status_name(status));
-    return status != WASMLOOP_OK;
+    return say(status, why, length < sizeof why ? length : sizeof why);
 }

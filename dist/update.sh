@@ -5,6 +5,7 @@
 #
 # usage: dist/update.sh [LOG..]
 set -eu
+for word; do case $word in -*) sed -n 's/^# usage: /usage: /p' "$0" >&2; exit 2 ;; esac; done
 dist=$(cd "$(dirname "$0")" && pwd)
 if [ $# -eq 0 ]; then
     python3 "$dist/../build.py" wasmloop wasmloop_c

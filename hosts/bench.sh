@@ -6,7 +6,10 @@
 set -u
 cd "$(dirname "$0")" || exit 1
 case :$PATH: in *:/usr/bin:*) PATH=/usr/bin:/usr/sbin:$PATH; export PATH ;; esac
-[ $# -gt 0 ] || set -- sqlite postgres nginx redis node go
+all='sqlite postgres nginx redis node go'
+# shellcheck disable=SC2086 # (the names are words)
+[ $# -gt 0 ] || set -- $all
+for name; do [[ " $all " == *" $name "* ]] || { sed -n 's/^# usage: /usage: /p' bench.sh >&2; exit 2; }; done
 
 # the packages of a bench, besides those of its test
 needs() {

@@ -48,6 +48,7 @@ if [ "${1:-}" = random ]; then
     for name in postgres nginx redis; do run "$name" random "$room"; done
 else
     [ $# -gt 0 ] || set -- "${all[@]}"
+    for name in "$@"; do [[ " ${all[*]} " == *" $name "* ]] || { sed -n 's/^# usage: /usage: /p' test.sh >&2; exit 2; }; done
     for name in "$@"; do run "$name"; done
 fi
 for each in "${left[@]}"; do echo "left out: $each"; done

@@ -26,6 +26,7 @@ FIRST = {
     "shipped program": ["dist/same.sh", "program"],
     "shipped library": ["dist/same.sh", "library"],
     "launcher": ["tests/launcher.sh"],
+    "usages": ["tests/usages.sh"],
 }
 RT = "rt ci"
 PROOFS = {

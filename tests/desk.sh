@@ -1,7 +1,7 @@
 #!/bin/sh
 # Tests the tools of the Python package: lines of planted traps, replays of random hosts, sums of profiles, frozen guests; and the recorder for
-# hosts in C, linked with the host on libuv. About a minute. Parts that need a missing compiler, llvm-symbolizer or libuv are skipped with a
-# message.
+# hosts in C, linked with the host on libuv. About a minute. Parts that need a missing compiler, llvm-symbolizer or libuv are left
+# out, and said.
 #
 # usage: tests/desk.sh PROGRAM [OUT]       exits with 1 if a test fails
 set -eu
@@ -10,13 +10,13 @@ mkdir -p "$out"
 [ $# -gt 1 ] || trap 'rm -rf "$out"' EXIT
 WASMLOOP_LIBRARY=$top/dist/libwasmloop.so.0 PYTHONPATH=$top/capi/python PYTHONDONTWRITEBYTECODE=1
 export WASMLOOP_LIBRARY PYTHONPATH PYTHONDONTWRITEBYTECODE
-command -v python3 > /dev/null || { echo 'skipped: the tools in Python: python3 is missing'; exit 0; }
+command -v python3 > /dev/null || { echo 'left out: the tools in Python: python3 is missing'; exit 0; }
 python3 "$top/capi/test/desk_test.py" "$program" "$out"
 if command -v clang > /dev/null && command -v wasm-ld > /dev/null; then python3 "$top/capi/test/hostile_test.py" "$out/hostile"
-else echo 'skipped: hostile guests: clang is missing'; fi
+else echo 'left out: hostile guests: clang is missing'; fi
 
 # an unmodified host in C: the replay of each loop's record emits what the host printed
-if [ ! -f /usr/include/uv.h ] || ! command -v cc > /dev/null; then echo 'skipped: the recorder for C: cc or libuv1-dev is missing'; exit 0; fi
+if [ ! -f /usr/include/uv.h ] || ! command -v cc > /dev/null; then echo 'left out: the recorder for C: cc or libuv1-dev is missing'; exit 0; fi
 sed -n 's/^REAL(\([a-z_]*\),.*$/--wrap=wasmloop_\1/p' "$top/capi/record_wrap.c" > "$out/record_wrap.opts"
 cc -std=c11 -D_GNU_SOURCE -Wall -Wextra -Werror -g -O1 -fsanitize=address,undefined -fno-sanitize-recover -I"$top/capi/include" -o "$out/recorded" \
     "$top/hosts/c/host_uv.c" "$top/capi/record_wrap.c" "$top/dist/libwasmloop.a" -luv -lpthread "-Wl,@$out/record_wrap.opts"
@@ -67,7 +67,7 @@ echo 'recorder for C: loads that say why not, and records that could not be writ
 
 # the edge server's -r: two requests within one millisecond make its guest fail, and the record fails in the same line
 if [ ! -f /usr/include/llhttp.h ] && [ ! -f /usr/include/http_parser.h ] || [ ! -f "$out/racy.wasm" ]; then
-    echo 'skipped: records of the edge server: an HTTP parser or clang is missing'
+    echo 'left out: records of the edge server: an HTTP parser or clang is missing'
     exit 0
 fi
 "$top/examples/edge/build.sh" "$out/edge"

@@ -23,6 +23,7 @@ for word in --help nosuch; do
     refuses hosts/bench.sh "$word"
     refuses .ci/nightly "$word"
 done
+refuses .ci/nightly tools/check.sh
 refuses dist/update.sh --help
 refuses dist/update.sh log --help
 echo "usages: $tried tries, $wrong wrong"

@@ -85,9 +85,10 @@ LONGEST, LOOK = 2400.0, 0.3
 MANY, EACH = 8, 3_500_000_000
 # The library's own proof, and wrong bodies of two crates.
 MOST_BESIDE = 3
-# of what any part says, what tells that something is wrong, and that something was left out; of what rattle says, what tells where
+# of what any part says, what tells that something is wrong, and that something was left out, which .ci/nightly reads here too; of what rattle
+# says, what tells where
 FAULT = re.compile(r"NOT PROVED|NOT REFUSED|NOT TRIED|BAD EDIT|FAILED|^rt: \w+ (?:wrote|ended)|: error\b|could not tell|no verdict")
-LEFT_OUT = re.compile(r"(?:^|: )left out[:,]")
+LEFT_OUT = re.compile(r"(^|: )left out[:,]")
 PLACE = re.compile(r"^(?:note: )?(?:\./)?((?:src|specs|proofs)/\S+:\d+:\d+: .*)")
 
 

@@ -175,7 +175,7 @@ def slices(data: bytes, host: wasmloop.Module, given: bytes) -> None:
     try:
         found = run._paths(each)
     except wasmloop.Error:
-        print("skipped: backtraces of paused calls: this library has none")
+        print("left out: backtraces of paused calls: this library has none")
         return
     same("the backtraces of a paused call", found, [run._path_at(fuel)[0] for fuel in range(each // 2, each // 2 + each * len(found), each)])
     print(f"units: {len(found)} backtraces of a paused call are those of runs with as much fuel")
@@ -215,7 +215,7 @@ def check_callgrind(told: profile.Profile) -> None:
     same("the units of calls", [it for it in called if it and called[it] > within[it]], [])
     same("the calls' number", sum(int(it[6:].split()[0]) for it in text if it.startswith("calls=")), sum(it.calls for it in told.nodes if it.parent))
     if not shutil.which("callgrind_annotate"):
-        print("skipped: callgrind_annotate: valgrind is missing")
+        print("left out: callgrind_annotate: valgrind is missing")
         return
     (OUT / "guest.callgrind").write_text("\n".join(text))
     ran = subprocess.run(["callgrind_annotate", OUT / "guest.callgrind"], capture_output=True, check=False)
@@ -234,7 +234,7 @@ def check_pprof(told: profile.Profile) -> None:
     same("pprof's lines", read.by(lambda frames: frames[-1][1:]), dict(by_line) if told.lines else {("", 0): told.ran.used})
     same("pprof's files of a second profile", pprof.written(told, "guest.wasm"), data)
     if not shutil.which("go"):
-        print("skipped: pprof itself: go is missing")
+        print("left out: pprof itself: go is missing")
         return
     (OUT / "guest.pprof").write_bytes(data)
     ran = subprocess.run(["go", "tool", "pprof", "-top", OUT / "guest.pprof"], capture_output=True, check=False)
@@ -246,7 +246,7 @@ def covered_part() -> None:
     file = guests.built(OUT, EXAMPLES, "covered")
     source = lines.wanted(file.read_bytes(), None) if file else None
     if not file or not source:
-        print("skipped: covered: clang, wasm-ld or llvm-symbolizer is missing")
+        print("left out: covered: clang, wasm-ld or llvm-symbolizer is missing")
         return
     tried = sum(covers(file, source, *it) for it in (((0, 5, 12), 10**6), ((13,), 10**6), ((20, 3, 64), 10**6), ((40, 9), 300)))
     words = [sys.executable, "-m", "wasmloop.cover", str(file), "0", "--least", "100", "--lcov", str(OUT / "lcov")]

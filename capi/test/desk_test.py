@@ -2,8 +2,8 @@
 
 usage: PYTHONPATH=capi/python WASMLOOP_LIBRARY=LIBRARY desk_test.py PROGRAM OUT [PART..]
 
-The parts are lines, hosts, units, callbacks, covered, warm, log, instances, fuzz and words; default: all. Parts that need a missing compiler are
-skipped with a message; desk_hosts.py says what HOSTS and SEED in the environment are.
+The parts are lines, hosts, units, callbacks, covered, warm, log, instances, fuzz and words; default: all. What needs a compiler that isn't
+there is left out, and said; desk_hosts.py says what HOSTS and SEED in the environment are.
 """
 
 from __future__ import annotations
@@ -35,11 +35,11 @@ REQUESTS = 200
 def lines_part() -> None:
     """Each planted trap gets its line: in the guest as it is, stripped, linked with shorter numbers, and lowered."""
     if not (shutil.which("clang") and shutil.which("wasm-ld") and any(map(shutil.which, lines.KNOWN))):
-        print("skipped: lines: clang, wasm-ld or llvm-symbolizer is missing")
+        print("left out: lines: clang, wasm-ld or llvm-symbolizer is missing")
         return
     for language, made in (("C", guests.in_c(OUT, EXAMPLES)), ("Rust", guests.in_rust(OUT, EXAMPLES))):
         if made is None:
-            print("skipped: lines in Rust: rustc has no wasm32-unknown-unknown")
+            print("left out: lines in Rust: rustc has no wasm32-unknown-unknown")
             continue
         source, variants = made
         wanted = guests.marked(source)
@@ -187,7 +187,7 @@ def statics_in_rust() -> None:
         shutil.copy(name, OUT)
     made = OUT / "statics_rust.wasm"
     if not guests.rust(OUT / "statics.rs", made):
-        print("skipped: statics in Rust: rustc has no wasm32-unknown-unknown")
+        print("left out: statics in Rust: rustc has no wasm32-unknown-unknown")
         return
     data = lower.lower(made.read_bytes())[0]
     warm = freeze.freeze(data, "init")[0]
@@ -284,7 +284,7 @@ def fuzz_part() -> None:
     """The fuzzer finds the planted fault, and the input that it writes repeats it; and an input that costs too much per byte."""
     file = guests.built(OUT, EXAMPLES, "planted")
     if not file or not guests.has_fuzzer():
-        print("skipped: fuzz: clang or its libFuzzer is missing")
+        print("left out: fuzz: clang or its libFuzzer is missing")
         return
     found, first = Path(f"{file}.found"), b""
     for old in found.parent.glob(found.name + "*"):

@@ -25,7 +25,7 @@ else
 fi
 
 left_out() {
-    echo "the official suite is left out: $1"
+    echo "left out: the official suite: $1"
     exit 0
 }
 

@@ -3,11 +3,12 @@
 from __future__ import annotations
 
 import asyncio
+import pickle
 import sys
 import time
 from typing import Any, List, Set, Tuple
 
-from wasmloop import Error, Late, Module, Stopped
+from wasmloop import KIND, OK, Error, Late, Module, Stopped
 from wasmloop.served import Closed, Failed, Served
 
 guests, examples = sys.argv[1:]
@@ -51,6 +52,12 @@ async def wrong_words() -> None:
         assert await served.request(0, b"") > 0
 
 
+def is_error(error: Exception, status: int) -> None:
+    """That it is an error of the package with this status, also in another process."""
+    told = pickle.loads(pickle.dumps(error))
+    assert isinstance(told, Error) and (type(told), str(told), told.status) == (type(error), str(error), status), error
+
+
 async def failing() -> None:
     async with Served(echo) as served:
         served.send(1)
@@ -60,11 +67,12 @@ async def failing() -> None:
             raise AssertionError("it did not fail")
         except Failed as error:
             assert "unreachable, after 1 unit, in function 9 (on_fail), " in str(error), error
+            is_error(error, OK)
         try:
             await served.request(0)
             raise AssertionError
-        except Closed:
-            pass
+        except Closed as error:
+            is_error(error, KIND)
 
 
 async def failing_beside_work() -> None:

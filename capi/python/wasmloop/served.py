@@ -20,7 +20,7 @@ import threading
 import time
 from typing import AsyncIterator, Callable, Deque, Iterable, List, Optional, Set, Tuple
 
-from . import ENTERED, FOREVER, OVER, RAN, Job, Loop, Module
+from . import ENTERED, FOREVER, KIND, OK, OVER, RAN, Error, Job, Loop, Module
 from ._calls import _text
 
 UNITS, WORK_UNITS = 3_000, 100_000                      # of a slice of a callback, and of a work request
@@ -30,11 +30,11 @@ MOST_EMITTED = 1024                                     # so many values wait to
 MOST_WORK, THREADS = 32, 4
 
 
-class Failed(Exception):
+class Failed(Error):
     """A callback of the guest did not return."""
 
 
-class Closed(Exception):
+class Closed(Error):
     """The loop is over, has failed, or its block was left."""
 
 
@@ -96,7 +96,7 @@ class Served:
 
     def _soon(self, act: Callable[[], object], answer: Optional[asyncio.Future[int]] = None) -> None:                  # kept until no callback is paused
         if self._closed:
-            raise Closed("the loop is over")
+            raise Closed(KIND, "the loop is over")
         self._later.append((act, answer))
         self._wake.set()
 
@@ -140,7 +140,7 @@ class Served:
     def _failure(self) -> Failed:
         did = self._loop.turned.did
         how = _text("ended_text", c.c_uint32(did.ending), c.c_uint32(did.trap), c.c_uint64(did.used))
-        return Failed(f"a callback did not return: {how}, {self._loop.stop_told()}")
+        return Failed(OK, f"a callback did not return: {how}, {self._loop.stop_told()}")
 
     async def _serve(self) -> None:
         try:
@@ -164,6 +164,6 @@ class Served:
             self._stop.set()
             for _, answer in self._later:
                 if answer and not answer.done():
-                    answer.set_exception(Closed("the loop is over"))
+                    answer.set_exception(Closed(KIND, "the loop is over"))
             self._some.set()
             await asyncio.gather(*[it for it in self._jobs if it], return_exceptions=True)

@@ -10,8 +10,10 @@ from __future__ import annotations
 import functools
 import importlib.util
 import json
+import pickle
 import random
 import shutil
+import subprocess
 import sys
 import time
 import zlib
@@ -61,6 +63,16 @@ def raised(kind: Type[Exception], call: Callable[[], object]) -> str:
         return str(why)
 
 
+def pickled(plugin: Any) -> Tuple[str, int, int]:
+    """The text, the code and the status of an error of a plug-in, as another process gets it."""
+    try:
+        plugin.middle((5, 0), (4, 0))
+    except bind.Failed as why:
+        told = pickle.loads(pickle.dumps(why))
+        return str(told), told.code, told.status
+    return "it returned", 0, 0
+
+
 def kinds() -> None:
     """Each kind of function, with numbers and bytes of any kind, by a static place and by an allocator."""
     text = (HERE / "ask" / "kinds.h").read_text()
@@ -100,6 +112,7 @@ def faults_of(plugin: Any, made: Any) -> None:
     same("version", plugin.version(), "1.2, of more than a few letters, so that it is read in several parts, as long texts are")
     same("an error", raised(bind.Failed, lambda: plugin.middle((5, 0), (4, 0))), "middle returned -1")
     same("an error with bytes", raised(bind.Failed, lambda: plugin.twice(bytes(60001))), "twice returned -7")
+    same("an error that is pickled", pickled(plugin), ("middle returned -1", -1, 0))
     same("little room", raised(Error, lambda: plugin.twice(b"abc", 5)), "twice has 6 bytes for a room of 5")
     same("no room at all", raised(Error, lambda: plugin.crc(bytes(5 << 20))), f"the plug-in has no room for {5 << 20} bytes")
     same("a zero in a text", raised(Error, lambda: plugin.words("a\0b")), "a zero in a text")
@@ -118,6 +131,7 @@ def headers() -> None:
                                          "int32_t f(const uint8_t *x)"),
         ("double f(void);", "h.h:1: the result `double`: expected a number, void or const char *: double f(void)"),
         ("struct p { double x; };", "h.h:1: `double x`: expected a number: struct p { double x; }"),
+        ("struct p { };", "h.h:1: a struct without fields: struct p { }"),
         ("int32_t f(const char *x);", "h.h: f takes or gives bytes, and neither room nor malloc and free are declared"),
         ("int64_t f(char *x, uint32_t x_room);" + room, "h.h:1: expected one output at most, with a result int32_t: int64_t f(char *x, uint32_t x_room)"),
         ("int32_t close(void);", "h.h:1: close is a name of the classes: int32_t close(void)"),
@@ -125,6 +139,14 @@ def headers() -> None:
         ("int32_t f(int32_t x);\nint32_t f(int64_t x);", "h.h:2: f is declared before, with another type: int32_t f(int64_t x)"),
     ):
         same(text, raised(_tool.Failed, functools.partial(_header.read, "h", text)), why)
+    for file, why in (("3d.h", "3d.h: 3d is no name of a module: rename the header"), ("_.h", "_.h: _ is no name of a module: rename the header"),
+                      ("of/class.h", "of/class.h: class is a word of Python: rename the header"),
+                      ("match.h", "match.h: match is a word of Rust: rename the header")):
+        same(file, raised(_tool.Failed, functools.partial(bind.named, file)), why)
+    same("a name with a minus", bind.named("of/my-orders.h"), "my_orders")
+    (OUT / "3d.h").write_text("int32_t f(void);")
+    ran = subprocess.run([sys.executable, "-m", "wasmloop.bind", OUT / "3d.h", "-o", OUT], capture_output=True, check=False)
+    same("a header without a name for a module", (ran.returncode, ran.stdout, list(OUT.glob("3d*"))), (1, b"", [OUT / "3d.h"]))
     made = bound("other", "int32_t add(int32_t by); int32_t gone(void);")
     data = (OUT / "kinds.wasm").read_bytes()
     same("another type", raised(Error, lambda: made.Other(Module(data))), "add: expected [32] to [32], found [32] to [64]")

@@ -140,6 +140,8 @@ def struct_of(found: "re.Match[str]") -> Struct:
             if kind not in NUMBERS or not re.fullmatch(r"\s*\w+\s*", name):
                 raise ValueError(f"`{line.strip()}`: expected a number")
             fields.append((kind, name.strip()))
+    if not fields:
+        raise ValueError("a struct without fields")
     return Struct(found[3] or found[1], fields)
 
 

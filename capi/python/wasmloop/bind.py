@@ -30,7 +30,7 @@ import re
 import struct
 from typing import Any, Dict, Iterator, List, NamedTuple, Optional, Tuple, TypeVar
 
-from . import ARGUMENTS, MEMORY, RANGE, Error, Instance, Module, Stopped, _bind_c, _bind_rust, _tool, ask
+from . import ARGUMENTS, MEMORY, OK, RANGE, Error, Instance, Module, Stopped, _bind_c, _bind_rust, _tool, ask
 from ._calls import _whole, shown
 from ._header import ALLOCATORS, NUMBERS, Arg, Function, Header, Taken, apart, camel, read, renamed
 
@@ -43,8 +43,11 @@ class Failed(Error):
     """A function returned an error: a number below 0, `code`."""
 
     def __init__(self, name: str, code: int) -> None:
-        super().__init__(0, f"{name} returned {code}")
-        self.code = code
+        super().__init__(OK, f"{name} returned {code}")
+        self._function, self.code = name, code
+
+    def __reduce__(self) -> Any:
+        return type(self), (self._function, self.code)
 
 
 class Area(NamedTuple):
@@ -276,6 +279,16 @@ def written(header: Header, asks: bool = False) -> str:
     return f"{told}\n\n{imports}\n\n\n" + "\n\n\n".join([*parts, "\n\n".join([head, *methods])]) + "\n"
 
 
+def named(file: str) -> str:
+    """The name of what is written: the header's. Raises Failed where no class or module can have it."""
+    name = re.sub(r"\W", "_", os.path.splitext(os.path.basename(file))[0])
+    why = ("is no name of a module" if not name.isidentifier() or not name.strip("_") else "is a word of Python" if keyword.iskeyword(name)
+           else "is a word of Rust" if name in _bind_rust.WORDS else "")
+    if why:
+        raise _tool.Failed(f"{file}: {name} {why}: rename the header")
+    return name
+
+
 def callable_in(module: Module) -> Iterator[str]:
     """A line for each function that a plug-in exports: its name and its types."""
     for name, _, types in module.exports:
@@ -290,11 +303,11 @@ def main() -> int:
     parser.add_argument("-o", dest="folder", metavar="FOLDER", default=".", help="where the files are written (here)")
     parser.add_argument("--asks", action="store_true", help="the plug-in asks: the class's methods are awaited, as wasmloop.ask says")
     given_words = parser.parse_args()
-    name = re.sub(r"\W", "_", os.path.splitext(os.path.basename(given_words.header))[0])
     data = _tool.read(given_words.header)
     if data.startswith(b"\0asm"):
         print("\n".join(callable_in(_tool.load(data, given_words.header)[0])))
         return 0
+    name = named(given_words.header)
     header = read(name, data.decode("utf-8-sig", "replace"))
     texts = {f"{name}.py": written(header, given_words.asks), f"{name}_host.h": _bind_c.written(header), f"{name}.rs": _bind_rust.written(header)}
     for file, made in texts.items():

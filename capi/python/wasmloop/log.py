@@ -5,7 +5,8 @@
     python3 -m wasmloop.log guest.record --callback 73
 
 The first form runs uv_work, the others read the memory of a recorded loop after its failure, its last callback or another one. In your own
-host, `wasmloop.log.read(instance)` returns the lines of an instance, also after a call that stopped.
+host, `wasmloop.log.read(instance)` returns the lines of an instance, also after a call that stopped: ask for its `stop_told()` before, since to read
+the log is a call too.
 
 The convention: the export guest_log_ring is a function without parameters that returns an address, where three i32 are: the size of the ring,
 how many bytes were written (modulo 2^32), and the address of the ring.
@@ -45,7 +46,8 @@ def lines_in(read: Callable[[int, int], bytes], at: int) -> List[str]:
 
 
 def read(instance: Instance) -> List[str]:
-    """The lines that the guest of an instance has logged; none if it exports no guest_log_ring. Raises Error if it has no ring there."""
+    """The lines that the guest of an instance has logged; none if it exports no guest_log_ring. Raises Error if it has no ring there. It calls the
+    guest: afterwards stop_told() is None."""
     try:
         at = instance.call(EXPORT)
     except (Error, TypeError):                          # (none, or one that takes arguments)

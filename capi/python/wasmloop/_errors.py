@@ -48,7 +48,8 @@ class Refused(Error):
 
 
 class InertImports(UserWarning):
-    """An instance was created of a module that imports functions of "uv": in an instance they do nothing and return -1."""
+    """An instance was created of a module that imports functions of "uv", and exports uv_main or no uv_work: in an instance they do nothing and
+    return -1, but for those that read and reply in a call_bytes."""
 
 
 class Stopped(Error):

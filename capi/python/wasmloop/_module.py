@@ -140,8 +140,8 @@ class _Exported(NamedTuple):
 
 
 class Instance(_Inspected):
-    """An instance of a module. It keeps its memory and globals from call to call. Calls to "uv" imports return -1, and the warning InertImports
-    says so: an instance has no timers and no work requests. One thread at a time."""
+    """An instance of a module. It keeps its memory and globals from call to call. Calls to "uv" imports return -1, but for those that read
+    and reply in a call_bytes, and the warning InertImports says so: an instance has no timers and no work requests. One thread at a time."""
 
     _kind = "instance"
 
@@ -301,8 +301,8 @@ def _warn_of_imports(module: Module) -> None:
     count = shape.imports
     if count and (shape.main or not shape.work):        # (those of a module with jobs and with exports of its own may be its jobs')
         functions = "1 function" if count == 1 else f"{count} functions"
-        warnings.warn(f'the module imports {functions} of "uv", which return -1 in an instance: use a Loop for timers and queued work, a Job for uv_work',
-                      InertImports, _level_outside())
+        warnings.warn(f'the module imports {functions} of "uv", which return -1 in an instance: use call_bytes for in_copy and out_set, '
+                      "a Loop for timers and queued work, a Job for uv_work", InertImports, _level_outside())
 
 
 def _call_limits(fuel: int, depth: int) -> _CallLimits:

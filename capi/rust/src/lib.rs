@@ -743,12 +743,12 @@ impl Module {
         (0..).map_while(|number| text(|into, room, count| unsafe { wasmloop_warning(&self.0, number, into, room, count) }).transpose()).collect()
     }
 
-    /// Why an `Instance` of the module may not do what it is written for: the functions of "uv" that it imports return -1 there. `None` if it
-    /// imports none.
+    /// Why an `Instance` of the module may not do what it is written for: the functions of "uv" that it imports return -1 there, but for those
+    /// that read and reply in a `call_bytes`. `None` if it imports none.
     pub fn instance_warning(&self) -> Result<Option<String>, Error> {
         let imports = self.shape()?.imports;
         let functions = if imports == 1 { "function" } else { "functions" };
-        let advice = "use a Loop for timers and queued work, a Job for uv_work";
+        let advice = "use call_bytes for in_copy and out_set, a Loop for timers and queued work, a Job for uv_work";
         let why = || format!("the module imports {imports} {functions} of \"uv\", which return -1 in an instance: {advice}");
         Ok((imports > 0).then(why))
     }

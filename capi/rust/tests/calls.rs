@@ -48,7 +48,8 @@ fn a_module_is_shared_by_threads() {
     assert!(shape.work == 1 && shape.pages >= 1 && shape.most_pages >= shape.pages);
     assert!(other.warnings().unwrap().is_empty());
     let warning = format!("the module imports {} functions of \"uv\", which return -1 in an instance: ", shape.imports);
-    assert!(other.instance_warning().unwrap().unwrap().starts_with(&warning));
+    let told = other.instance_warning().unwrap().unwrap();
+    assert!(told.starts_with(&warning) && told.contains(": use call_bytes for in_copy and out_set, a Loop for "));
     let empty = Module::new(b"\0asm\x01\0\0\0").unwrap();
     assert!(empty.warnings().unwrap()[0].starts_with("the module exports none of uv_main"));
     assert!(empty.instance_warning().unwrap().is_none());

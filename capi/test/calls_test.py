@@ -277,6 +277,16 @@ def late(call: Callable[[], object], most: float) -> wasmloop.Late:
     sys.exit("the call is not late")
 
 
+def where_it_stopped(module: wasmloop.Module) -> None:
+    """A reply has the backtrace of a job that did not return, and none else."""
+    with wasmloop.Module((EXAMPLES.parent / "hosts" / "guest" / "rules.wasm").read_bytes()) as rules:
+        for op, outcome in ((0, "done"), (1, "spent"), (2, "trap"), (6, "depth")):
+            job = rules.job(op, b"abc")
+            reply = job.run().reply()
+            same((reply.outcome, reply.where, reply.where != "", reply), (outcome, job.stop_told() or "", outcome != "done", rules.work(op, b"abc")))
+    same(module.work(0, fuel=1000).where[:13], "in function 2")
+
+
 def deadlines() -> None:
     """What takes longer than its deadline is late, and leaves what a call with just the fuel used leaves; its instance lives on."""
     with wasmloop.Module(SPINS) as module, module.instance() as it, module.instance() as other:
@@ -294,6 +304,7 @@ def deadlines() -> None:
         reply = module.work(0, fuel=2**62, deadline=5)
         same((reply[:3], reply.used > 0, reply.where[:13]), (("late", 0, b""), True, "in function 2"))
         same(late(lambda: reply.value, 1).used, reply.used)
+        where_it_stopped(module)
         same((module.work(0, fuel=1000, deadline=10_000).outcome, wasmloop.work(SPINS, 0, fuel=2**62, deadline=0).outcome), ("spent", "late"))
         same(said(lambda: it.call("count", deadline=-1)), "OutOfRange: deadline -1 is out of range: expected 0 or more")
         same(said(lambda: it.call("count", deadline=float("nan"))), "OutOfRange: deadline nan is out of range: expected 0 or more")

@@ -190,7 +190,8 @@ def _until(deadline: float) -> float:
 class Reply(NamedTuple):
     """The result of a job. `outcome` is "done", "trap", "depth" (call-depth limit exceeded), "spent" (out of fuel), "late" (deadline passed) or
     "nomemory" (allocation failed); `number` the signed result if it is "done", else the trap's number or 0; `data` the reply's bytes; `used` the fuel
-    used, in units; `line` the source line where it stopped, if the module was given `debug`; `where` the backtrace of one that is "late", as text."""
+    used, in units; `line` the source line where it stopped, if the module was given `debug`; `where` the backtrace of one that did not return, as
+    text."""
 
     outcome: str
     number: int
@@ -277,8 +278,8 @@ class Job(_Runs):
         if about.outcome == NOT_RUN:
             raise Error(KIND, _unfinished(about))
         data = self._reply() if about.outcome == WORK_DONE else b""
-        line = self._line() if about.outcome in (WORK_TRAP, WORK_DEPTH, WORK_SPENT) else ""
-        return Reply(_outcome(about), c.c_int32(about.value).value, data, about.used, line)
+        where = (self._line(), self.stop_told() or "") if about.outcome in (WORK_TRAP, WORK_DEPTH, WORK_SPENT) else ("", "")
+        return Reply(_outcome(about), c.c_int32(about.value).value, data, about.used, *where)
 
     def reply_into(self, room: Union[bytearray, memoryview]) -> int:
         """Copies as much of the reply as fits into a writable buffer, and returns the length of the whole reply."""

@@ -93,4 +93,7 @@ def main(file: str, loops: int, workers: int = 3) -> int:
 
 
 if __name__ == "__main__":
+    if len(sys.argv) < 3:
+        print((__doc__ or "").split("\n\n")[1], file=sys.stderr)
+        sys.exit(2)
     sys.exit(main(sys.argv[1], *map(int, sys.argv[2:])))

@@ -73,4 +73,7 @@ def main(file: str, *flags: str) -> int:
 
 
 if __name__ == "__main__":
+    if len(sys.argv) < 2:
+        print((__doc__ or "").split("\n\n")[1], file=sys.stderr)
+        sys.exit(2)
     sys.exit(main(*sys.argv[1:]))

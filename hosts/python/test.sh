@@ -12,6 +12,7 @@ read -r good bad < <(tail -1 "$room/said")
 passed=$((passed + ${good:-0})) failed=$((failed + ${bad:-1}))
 for host in "host.py $top/examples/ticker.wasm 1" "host_asyncio.py $top/examples/ticker.wasm --virtual"; do
     # shellcheck disable=SC2086
+    want "$(python3 "${host%% *}" 2>&1)" "$(sed -n '/^usage: /p' "${host%% *}")" "${host%% *} without words"
     want "$(python3 $host 2>&1 | tail -1)" "$("$top/dist/wasmloop" serve "$top/examples/ticker.wasm" --loops 1 --workers 1 2> /dev/null | tail -1)" "${host%% *}"
 done
 end

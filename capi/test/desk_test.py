@@ -27,7 +27,7 @@ import desk_profiles
 import wasmloop
 from desk_checks import EXAMPLES, OUT, bad, same
 from expecting import number
-from wasmloop import callbacks, freeze, lines, log, lower, plugin_record, record, replay, runs
+from wasmloop import __main__, callbacks, freeze, lines, log, lower, plugin_record, record, replay, runs
 
 REQUESTS = 200
 
@@ -305,6 +305,16 @@ def fuzz_part() -> None:
     print("fuzz: the planted fault, and units per byte")
 
 
+def misspelt() -> None:
+    """A word that is no command and no tool names those that are near."""
+    listed = subprocess.run([sys.argv[1], "help"], capture_output=True, check=False).stdout.decode()
+    same("the commands", re.findall(r"(?m)^  ([a-z]+)  ", listed), list(__main__.COMMANDS))
+    for words, told in (("profil x", "profil is no command and no tool; do you mean profile?"), ("serv x", "serv is no command and no tool; do you mean serve?"),
+                        ("recrd", "recrd is no command and no tool; do you mean record?"), ("xyz", "xyz is no command and no tool")):
+        ran = subprocess.run([sys.executable, "-m", "wasmloop", *words.split()], capture_output=True, check=False)
+        same(words, (ran.returncode, ran.stderr.decode()), (2, f"wasmloop: {told}\n"))
+
+
 def words_part() -> None:
     """What the tools print, and the status that they end with."""
     crc, tick = EXAMPLES / "crc32.wasm", EXAMPLES / "ticker.wasm"
@@ -353,11 +363,13 @@ def words_part() -> None:
         (f"freeze {crc} -o {OUT}/f.wasm --call uv_work", 2, "uv_work takes 1 arguments, expected 0"),
         (f"freeze {crc} -o {OUT}/f.wasm --in {none}", 2, "needs --call"),
         (f"freeze {tick} -o {OUT}/f.wasm --call uv_main", 0, "it called uv.timer_"),
+        (f"record {crc} -o {OUT}/w.record", 0, "warning: the module has no start function and exports no uv_main, so its loops run nothing\n"),
     ):
         ran = subprocess.run([sys.executable, "-m", *f"wasmloop.{words}".split()], stdin=subprocess.DEVNULL, capture_output=True, check=False)
         said = (ran.stdout + ran.stderr).decode()
         if ran.returncode != status or told not in said or "Traceback" in said:
             bad(f"wasmloop.{words}: status {ran.returncode}: {said}")
+    misspelt()
     same("the tools", "profile" in subprocess.run([sys.executable, "-m", "wasmloop"], capture_output=True, check=False).stdout.decode(), True)
     steps: List[str] = []
     stepper = replay.Stepper(replay.rows_of(str(OUT / "v.record")), steps.append)

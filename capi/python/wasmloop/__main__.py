@@ -7,6 +7,7 @@
 
 from __future__ import annotations
 
+import difflib
 import importlib
 import os
 import re
@@ -19,6 +20,7 @@ from typing import List, Optional
 from . import _tool
 
 TOOLS = "cc", "lower", "lines", "record", "replay", "plugin_record", "log", "profile", "cover", "fuzz", "freeze", "ask", "bind"
+COMMANDS = "check", "invoke", "work", "script", "serve", "help"
 
 
 def program() -> Optional[str]:
@@ -53,6 +55,10 @@ def command(words: List[str]) -> int:
         sys.argv[1:] = words[1:]
         runpy.run_module(f"wasmloop.{words[0]}", run_name="__main__")
         return 0
+    if words[0] not in COMMANDS and not words[0].startswith("-"):
+        near = " or ".join(difflib.get_close_matches(words[0], (*COMMANDS, *TOOLS)))
+        print(f"wasmloop: {words[0]} is no command and no tool{f'; do you mean {near}?' if near else ''}", file=sys.stderr)
+        return 2
     found = program()
     if not found:
         print(f"wasmloop: {words[0]} is no tool, and the program wasmloop is not there", file=sys.stderr)
@@ -67,7 +73,7 @@ def chosen() -> int:
     if words in ([], ["help"], ["--help"], ["-h"]):
         helped()
         return 0
-    return command([words[1], "--help"] if words[0] == "help" and words[1] in TOOLS else words)
+    return command([words[1], "--help"] if words[0] == "help" and words[1] not in COMMANDS else words)
 
 
 def main() -> None:

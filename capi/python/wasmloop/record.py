@@ -23,7 +23,7 @@ import threading
 import time
 from typing import Iterator, List, Optional, TextIO, Tuple, Union
 
-from . import ENTERED, FAILED, FOREVER, OVER, RAN, TIMERS, WORK_MEMORY, Buffer, Did, Job, Loop as Plain, Module, Turned, _tool, lines, replay
+from . import ENTERED, FAILED, FOREVER, OVER, RAN, TIMERS, WORK_MEMORY, Buffer, Did, Job, Loop as Plain, Module, Turned, _tool, lines, replay, wasm
 from ._errors import _is_paused
 
 
@@ -219,6 +219,12 @@ def serve(loop: Loop, workers: Workers, seconds: float) -> Tuple[str, List[int],
     return "limit", emits, did
 
 
+def warnings_of(host: Module, module: wasm.Module) -> List[str]:
+    """What `wasmloop serve` warns of."""
+    nothing = not host.shape().main and wasm.START not in module.places
+    return host.warnings + ["the module has no start function and exports no uv_main, so its loops run nothing"] * nothing
+
+
 def main() -> int:
     parser = _tool.words("record", __doc__)
     parser.add_argument("guest", metavar="GUEST", help="the module")
@@ -231,7 +237,9 @@ def main() -> int:
     parser.add_argument("--debug", metavar="FILE", help="the module with DWARF, if GUEST was stripped or lowered")
     given = parser.parse_args()
     data = _tool.read(given.guest)
-    host, _ = _tool.load(data, given.guest)
+    host, module = _tool.load(data, given.guest)
+    for it in warnings_of(host, module):
+        print(f"warning: {it}", file=sys.stderr)
     with Loop(host, data, given.record, 0, given.fuel, given.work_fuel, given.depth) as loop:
         ending, emits, did = serve(loop, Workers(given.workers), given.seconds)
         print(" ".join(["loop 0", ending, *(["emits"] if emits else []), *map(str, emits)]))

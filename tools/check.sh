@@ -1,6 +1,6 @@
 #!/bin/sh
-# What can be said of a change without a proof, in some twenty seconds of a processor: layout, the pages beside the tree, scripts and C files. The gate
-# (.ci/run) does the rest. As a hook before each commit: ln -s ../../tools/check.sh .git/hooks/pre-commit
+# What can be said of a change without a proof, in about a minute of a processor: layout, the last commit's subject, the pages beside the tree,
+# scripts and C files. The gate (.ci/run) does the rest. As a hook before each commit: ln -s ../../tools/check.sh .git/hooks/pre-commit
 #
 # usage: tools/check.sh [layout]       ends with 1 if anything is wrong; a program that isn't there is left out, and said
 set -u
@@ -12,6 +12,10 @@ try() { "$@" || { echo "FAILED: $*"; wrong=1; }; }
 files() { git ls-files -- "$@"; }
 
 if has rattle; then find crates -name out -prune -o \( -name '*.rt' -o -name '*.antt' \) -exec rattle fmt --check {} + || wrong=1; fi
+# (a hook runs before the commit that it is of, which may mend the last one's subject; a checkout for a pull request is a merge)
+subject=$(git log -1 --format=%s 2>/dev/null)
+case ${GIT_INDEX_FILE:+hook}$subject in hook* | 'Merge '*) subject= ;; esac
+if [ "$(printf %s "$subject" | LC_ALL=C.UTF-8 wc -m)" -gt 72 ]; then echo "FAILED: the last commit's subject has more than 72 letters: $subject"; wrong=1; fi
 [ "${1:-}" != layout ] || exit $wrong
 if has python3; then try tools/compare.sh; fi
 try git diff --check HEAD
@@ -21,7 +25,7 @@ if has flake8; then files '*.py' | xargs flake8 --max-line-length="$width" || wr
 # mypy of the package and the tools, and of each other folder, since modules of several have one name; MYPYPATH: the folders whose modules others use
 together='^(build|capi/make_wheel|capi/python/.*|tools/.*)\.py$'
 export MYPYPATH=capi/python:tools:trials/programs:trials/spec:bench/cost:bench/peers:bench/kernels:examples/kit:examples/libraries:examples/rust/crates:examples/edge
-strict() { mypy --strict --no-error-summary --cache-dir="${XDG_CACHE_HOME:-$HOME/.cache}/wasmloop/mypy" "$@"; }
+strict() { mypy --config-file tools/mypy.ini --strict --no-error-summary --cache-dir="${XDG_CACHE_HOME:-$HOME/.cache}/wasmloop/mypy" "$@"; }
 if has mypy; then
     # shellcheck disable=SC2046 # (no file's name has a blank)
     strict $(files '*.py' | grep -E "$together") || wrong=1

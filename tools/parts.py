@@ -26,7 +26,7 @@ FIRST = {
     "shipped program": ["dist/same.sh", "program"],
     "shipped library": ["dist/same.sh", "library"],
     "launcher": ["tests/launcher.sh"],
-    "usages": ["tests/usages.sh"],
+    "scripts": ["tests/scripts.sh"],
 }
 RT = "rt ci"
 PROOFS = {

@@ -1,14 +1,15 @@
 #!/usr/bin/env python3
-"""Whether docs/LIMITS.md and the sentences of the program say the numbers that the code has, and proofs name them.
+"""Whether docs/LIMITS.md, other pages and the sentences of the program say the numbers that the code has, and proofs name them.
 
     python3 tools/limits.py               status 1 if a row or a sentence has another number than its constant, or a constant has no row
     python3 tools/limits.py --self-test   plants faults in copies of the texts; status 1 if one isn't found
 
 A row of LIMITS.md names its constants in the column *Constant*, those of crates/limits/src/lib.rt by name alone, others as `crate::NAME`,
 and has the number of each in the column *Most*. Each constant of `limits` stands in a row. A string of the code that says `more than N
-THINGS` or `N THINGS at most` has the number of a limit: of one that is called after the things, where there is one. In a proof a limit
-over FEW, and the number after it, stand by the limit's name. tools/limits.txt has the files that have them in digits, each with how many;
-a number there may only shrink.
+THINGS`, `up to N THINGS` or `N THINGS at most` has the number of a limit: of one that is called after the things, where there is one. So does a
+page, of a number from FEW on; NO_LIMITS has what is none. In a proof a limit over FEW, and the number after it, stand by the limit's name; in the
+program's sources also the number before it. tools/limits.txt has the files that have them in digits, each with how many; a number there may
+only shrink.
 """
 from __future__ import annotations
 
@@ -20,9 +21,12 @@ from sources import TOP, Sources as Texts, asked, finish, plant
 
 PAGE, LIMITS, HELPS, LIST = "docs/LIMITS.md", "crates/limits/src/lib.rt", "crates/words/src/grammar.rt", "tools/limits.txt"
 FEW = 128
+STRING = re.compile(r'(?s)"((?:[^"\\]|\\.)*)"')
 CONSTANT = re.compile(r"\bconst ([A-Z][A-Z_0-9]*): \w+ = ([\d_]+);")
 DIGITS = re.compile(r"(?<![\w.'◌-])\d+(?![\w.'-])")
-SENTENCE = re.compile(r"(?:[Mm]ore than|at most|deeper than) (\d[\d,]*)(?: ([a-z]+))?")
+LITERAL = re.compile(r"(?<![\w.'])(\d[\d_]*)(?:[ui](?:8|16|32|64|size))?(?![\w'])")
+SENTENCE = re.compile(r"(?:[Mm]ore than|at most|up to|deeper than)\s+(\d[\d,]*)(?:\s+([a-z]+))?|(?<![\d,.])(\d[\d,]*)\s+([a-z]+)\s+at\s+most")
+NO_LIMITS = [("docs/LIMITS.md", "at most 512 slots"), ("docs/LIMITS.md", "at most 65,535 bytes"), ("docs/COOKBOOK.md", "up to 1,000,000 units")]
 
 
 class Sources(Texts):
@@ -37,13 +41,26 @@ class Sources(Texts):
             name = str(file.relative_to(TOP))
             yield name, re.sub(r"(?m)^(?:use | *--)[^\n]*", "", self.text(name))
 
-    def strings(self) -> Iterator[tuple[str, str]]:
-        """Each string of the program's sources, with its file."""
+    def code(self) -> Iterator[tuple[str, str]]:
+        """The program's sources, without comments and letters."""
         for file in sorted(TOP.glob("crates/*/src/**/*.rt")):
             name = str(file.relative_to(TOP))
             if "/test_" not in name and "/example_" not in name:
-                text = re.sub(r"(?m)//[^\n]*|b?'(?:[^'\\\n]|\\.)'", "", self.text(name))
-                yield from ((name, string) for string in re.findall(r'(?s)"((?:[^"\\]|\\.)*)"', text))
+                yield name, re.sub(r"(?m)//[^\n]*|b?'(?:[^'\\\n]|\\.)'", "", self.text(name))
+
+    def strings(self) -> Iterator[tuple[str, str]]:
+        """Each string of the program's sources, with its file."""
+        yield from ((name, string) for name, text in self.code() for string in re.findall(STRING, text))
+
+
+    def pages(self) -> Iterator[tuple[str, str]]:
+        """The text of each page, without what is no limit."""
+        for file in [TOP / "README.md", *sorted(TOP.glob("docs/*.md"))]:
+            name = str(file.relative_to(TOP))
+            text = self.text(name)
+            for page, told in NO_LIMITS:
+                text = text.replace(told, "") if page == name else text
+            yield name, text
 
 
 def constants(sources: Sources) -> dict[str, int]:
@@ -86,20 +103,30 @@ def wrong_rows(sources: Sources) -> Iterator[str]:
         yield f"{PAGE}: has no row of {name}"
 
 
+def told_in(text: str) -> Iterator[tuple[str, int, str]]:
+    """What a text says that there is at most: its words, the number and the things."""
+    for found in SENTENCE.finditer(text):
+        yield " ".join(found[0].split()), int((found[1] or found[3]).replace(",", "")), found[2] or found[4] or ""
+
+
 def wrong_sentences(sources: Sources) -> Iterator[str]:
     known = constants(sources)
-    for file, string in sources.strings():
-        for number, thing in SENTENCE.findall(string):
-            value = int(number.rstrip(",").replace(",", ""))
-            named = {name: known[name] for name in known if thing and thing.upper() in name.split("_")}
-            if value not in (named or known).values():
-                yield f"{file}: \"{string[:60]}\": {value:,} is no limit{f': {named}' if named else ''}"
+    told = [(file, it) for file, string in sources.strings() for it in told_in(string)]
+    told += [(page, it) for page, text in sources.pages() for it in told_in(text) if it[1] >= FEW]
+    for file, (words, value, thing) in told:
+        named = {name: known[name] for name in known if thing and thing.upper() in name.split("_")}
+        if value not in (named or known).values():
+            yield f"{file}: \"{words}\": {value:,} is no limit{f': {named}' if named else ''}"
+    yield from (f"{page}: doesn't say \"{words}\", which NO_LIMITS has" for page, words in NO_LIMITS if words not in sources.text(page))
 
 
 def unnamed(sources: Sources) -> dict[str, int]:
-    """How many numbers of each file of proofs a limit has too."""
+    """How many numbers of each file of proofs, and of the program's sources, a limit has too."""
     known = {value + more for value in constants(sources).values() if value > FEW for more in (0, 1)}
     counts = {name: sum(int(number) in known for number in DIGITS.findall(text)) for name, text in sources.proofs()}
+    known |= {value - 1 for value in constants(sources).values() if value > FEW}
+    for name, text in sources.code():
+        counts[name] = 0 if name == LIMITS else sum(int(number) in known for number in LITERAL.findall(STRING.sub("", text)))
     return {name: count for name, count in counts.items() if count}
 
 
@@ -124,8 +151,14 @@ PLANTED = [
     ("a row's number", PAGE, r"\| 4,096 \|", "| 4,095 |"),
     ("a row's name", PAGE, r"`MAX_TYPES`", "`MAX_TYPE`"),
     ("a limit in digits in a proof", "crates/reduction/proofs/Heights.antt", r"≤ MAX_HEIGHT", "≤ 256"),
+    ("a number in the place of a limit", "crates/decode/src/code.rt", r"bytes, MAX_LABELS\)", "bytes, 4095)"),
     ("a file that is no longer so", LIST, r"(?m)^2 (crates/leb/)", r"3 \1"),
     ("a sentence's number", HELPS, r"(at most )65,536( of them)", r"\g<1>65,535\2"),
+    ("a sentence's number before its things", HELPS, r"at most 65,536 of them", r"65,535 bytes at most"),
+    ("a number of README.md", "README.md", r"up to 65,536 bytes", r"up to 65,535 bytes"),
+    ("a number of a page, before its things", "docs/PROOFS.md", r"at most 100,000 callbacks", r"99,999 callbacks at most"),
+    ("a number of another limit", "docs/PROOFS.md", r"at most 100,000 callbacks", r"at most\n65,536 callbacks"),
+    ("what is said to be no limit", "docs/COOKBOOK.md", r"up to 1,000,000 units", r"up to 1,000,001 units"),
 ]
 
 
@@ -134,9 +167,9 @@ def main() -> None:
     if given.self_test:
         sys.exit(1 if plant(PLANTED, sources, faults) else 0)
     found = faults(sources)
-    sentences = sum(len(SENTENCE.findall(string)) for _, string in sources.strings())
+    sentences = sum(len(list(told_in(text))) for texts in (sources.strings(), sources.pages()) for _, text in texts)
     finish(found, f"{len(constants(sources))} limits, {len(list(rows(sources)))} rows, {sentences} numbers in sentences, "
-           f"{sum(unnamed(sources).values())} in digits in proofs")
+           f"{sum(unnamed(sources).values())} in digits")
 
 
 if __name__ == "__main__":

@@ -52,7 +52,6 @@ class Sources(Texts):
         """Each string of the program's sources, with its file."""
         yield from ((name, string) for name, text in self.code() for string in re.findall(STRING, text))
 
-
     def pages(self) -> Iterator[tuple[str, str]]:
         """The text of each page, without what is no limit."""
         for file in [TOP / "README.md", *sorted(TOP.glob("docs/*.md"))]:

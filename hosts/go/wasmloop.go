@@ -15,7 +15,9 @@ import (
 	"context"
 	"errors"
 	"fmt"
+	"math"
 	"runtime"
+	"strconv"
 	"strings"
 	"sync"
 	"unsafe"
@@ -49,15 +51,14 @@ type Refused struct{ Why string }
 
 func (r *Refused) Error() string { return "wasmloop: rejected: " + r.Why }
 
-// Stopped says why, and where, a guest did not return.
+// Stopped says why, and where, a guest did not return: Ending is "spent", "depth" or a trap's name, Text how it ended, in words.
 type Stopped struct {
 	Ending, Where string
 	Used          uint64
+	Text          string
 }
 
-func (s *Stopped) Error() string {
-	return fmt.Sprintf("wasmloop: %s, after %d units, %s", s.Ending, s.Used, s.Where)
-}
+func (s *Stopped) Error() string { return fmt.Sprintf("wasmloop: %s, %s", s.Text, s.Where) }
 
 func check(s C.int) error {
 	if s == C.WASMLOOP_OK {
@@ -109,16 +110,17 @@ func New(bytes []byte) (*Module, error) {
 
 // ended says how a run of h ended: by one of wasmloop_ended's endings.
 func ended(h *C.wasmloop_handle, ending, trap C.uint32_t, used C.uint64_t) error {
-	var into [1000]C.char
-	var n C.uint64_t
+	var into, how [1000]C.char
+	var n, count C.uint64_t
 	if C.wasmloop_stop_told(nil, 0, h, &into[0], 1000, &n) != C.WASMLOOP_OK {
 		n = 0
 	}
+	C.wasmloop_ended_text(ending, trap, used, &how[0], 1000, &count)
 	name := C.wasmloop_ending_name(ending)
 	if ending == C.WASMLOOP_TRAP {
 		name = C.wasmloop_trap_name(trap)
 	}
-	return &Stopped{C.GoString(name), text(&into, n), uint64(used)}
+	return &Stopped{C.GoString(name), text(&into, n), uint64(used), text(&how, count)}
 }
 
 // Reply is what a work function returned.
@@ -171,6 +173,41 @@ func (m *Module) Work(ctx context.Context, op uint32, input []byte, limits Limit
 	return r, nil
 }
 
+// Export is an export of a module: its name, and "function", "table", "memory" or "global".
+type Export struct{ Name, Kind string }
+
+// Exports lists the exports, in the module's order.
+func (m *Module) Exports() []Export { return m.exports(math.MaxInt) }
+
+// exports lists the first exports, at most so many.
+func (m *Module) exports(most int) (all []Export) {
+	var l C.wasmloop_listed
+	var t C.wasmloop_type
+	for at := C.uint64_t(0); len(all) < most && C.wasmloop_export_at(m.h, at, nil, 0, &l, &t) == C.WASMLOOP_OK; at++ {
+		name := make([]byte, int(l.length)+1)
+		C.wasmloop_export_at(m.h, at, (*C.char)(unsafe.Pointer(&name[0])), C.size_t(l.length), &l, &t)
+		all = append(all, Export{string(name[:l.length]), [...]string{"function", "table", "memory", "global"}[l.kind]})
+	}
+	return all
+}
+
+// functions says which functions there are, for a sentence: some of the first, since a module may have very many.
+func (m *Module) functions() string {
+	var names []string
+	for _, e := range m.exports(200) {
+		if quoted := strconv.Quote(e.Name); e.Kind == "function" && len(quoted) < 100 {
+			names = append(names, quoted)
+		}
+	}
+	if len(names) == 0 {
+		return "the module exports no function"
+	}
+	if len(names) > 20 {
+		names = append(names[:20], "..")
+	}
+	return "the module exports " + strings.Join(names, ", ")
+}
+
 // Func is an exported function of a module, looked up once.
 type Func struct {
 	m       *Module
@@ -185,7 +222,7 @@ func (m *Module) Func(name string) (*Func, error) {
 	var t C.wasmloop_type
 	at := (*C.char)(unsafe.Pointer(&append([]byte(name), 0)[0]))
 	if C.wasmloop_export_number(m.h, at, &f.number) != C.WASMLOOP_OK || C.wasmloop_function(m.h, at, &t) != C.WASMLOOP_OK || strings.Contains(name, "\x00") {
-		return nil, fmt.Errorf("wasmloop: no function %q", name)
+		return nil, fmt.Errorf("wasmloop: no function %q: %s", name, m.functions())
 	}
 	f.params = C.GoBytes(unsafe.Pointer(&t.param[0]), C.int(t.params))
 	f.results = C.GoBytes(unsafe.Pointer(&t.result[0]), C.int(t.results))

@@ -3,6 +3,7 @@ package wasmloop
 import (
 	"context"
 	"errors"
+	"fmt"
 	"os"
 	"runtime"
 	"strings"
@@ -67,7 +68,8 @@ func TestCalls(t *testing.T) {
 		t.Error(x, err)
 	}
 	stopped := new(Stopped)
-	if _, err := i.Call(bg, divide, 1, 0); !errors.As(err, &stopped) || stopped.Ending != "division by zero" || !strings.Contains(stopped.Where, "(divide)") {
+	if _, err := i.Call(bg, divide, 1, 0); !errors.As(err, &stopped) || stopped.Ending != "division by zero" || !strings.Contains(stopped.Where, "(divide)") ||
+		!strings.HasPrefix(err.Error(), "wasmloop: division by zero, after 3 units, in function ") {
 		t.Error(err)
 	}
 	for _, wrong := range [][]int64{{1}, {1, 2, 3}, {1 << 40, 1}} {
@@ -87,8 +89,13 @@ func TestCalls(t *testing.T) {
 		t.Error(err)
 	}
 	for _, name := range []string{"none", "", "score\x00"} {
-		if _, err := m.Func(name); err == nil {
-			t.Error("found", name)
+		if _, err := m.Func(name); err == nil || !strings.Contains(err.Error(), `: the module exports "`) || !strings.Contains(err.Error(), `"score", `) {
+			t.Error("found", name, err)
+		}
+	}
+	for _, e := range []Export{{"score", "function"}, {"memory", "memory"}} {
+		if !strings.Contains(fmt.Sprint(m.Exports()), fmt.Sprint(e)) {
+			t.Error("not exported", e)
 		}
 	}
 	i.Close()
@@ -102,7 +109,7 @@ func TestHostile(t *testing.T) {
 	i := made(t, m, Limits{})
 	for name, ending := range map[string]string{"spin": "spent", "grow": "spent", "copies": "spent", "deep": "depth"} {
 		stopped := new(Stopped)
-		if _, err := i.Call(bg, fn(t, m, name), 1); !errors.As(err, &stopped) || stopped.Ending != ending {
+		if _, err := i.Call(bg, fn(t, m, name), 1); !errors.As(err, &stopped) || stopped.Ending != ending || strings.Contains(err.Error(), "spent") {
 			t.Error(name, err)
 		}
 	}

@@ -62,7 +62,7 @@ static int bytes_of(napi_env env, napi_value v, uint8_t **at, size_t *length)
     return napi_get_typedarray_info(env, v, &type, length, &data, &buffer, &offset) == napi_ok && type == napi_uint8_array ? (*at = data, 1) : (fail(env, "TYPE", "expected a Uint8Array"), 0);
 }
 static napi_value buffer(napi_env env, const void *from, size_t length) { napi_value v; void *at; napi_create_buffer_copy(env, length, from, &at, &v); return v; }
-static napi_value status(napi_env env, int s, napi_value v) { return s == WASMLOOP_OK ? v : fail(env, wasmloop_status_name(s), wasmloop_status_name(s)); }
+static napi_value status(napi_env env, int s, napi_value v) { return s == WASMLOOP_OK ? v : fail(env, wasmloop_status_name(s), wasmloop_status_text(s)); }
 
 static napi_value load(napi_env env, napi_callback_info info)
 {
@@ -97,10 +97,41 @@ static napi_value type_of(napi_env env, napi_callback_info info)
     return o;
 }
 
+/* exports(module, most): of the first exports each one's name and kind */
+static napi_value exports_of(napi_env env, napi_callback_info info)
+{
+    static const char *const kinds[] = { "function", "table", "memory", "global" };
+    ARGS(2);
+    thing *t = get(env, v[0]); wasmloop_listed listed; wasmloop_type type; napi_value list, o, x; char *name;
+    if (!t) return NULL;
+    napi_create_array(env, &list);
+    for (uint32_t i = 0, most = u32(env, v[1]); i < most && wasmloop_export_at(&t->handle, i, NULL, 0, &listed, &type) == WASMLOOP_OK; i++) {
+        if (!(name = malloc(listed.length + 1))) return fail(env, "MEMORY", "out of memory");
+        wasmloop_export_at(&t->handle, i, name, listed.length, &listed, &type);
+        napi_create_object(env, &o);
+        napi_create_string_utf8(env, name, listed.length, &x);
+        free(name);
+        set(env, o, "name", x);
+        napi_create_string_utf8(env, kinds[listed.kind], NAPI_AUTO_LENGTH, &x);
+        set(env, o, "kind", x);
+        napi_set_element(env, list, i, o);
+    }
+    return list;
+}
+
 static napi_value told(napi_env env, wasmloop_handle *of)
 {
     char text[1000]; uint64_t n = 0; napi_value v;
     if (wasmloop_stop_told(NULL, 0, of, text, sizeof text - 1, &n) != WASMLOOP_OK) n = 0;
+    napi_create_string_latin1(env, text, host_line(text, sizeof text, n), &v);
+    return v;
+}
+
+/* how a run ended, in words */
+static napi_value why(napi_env env, uint32_t ending, uint32_t trap, uint64_t used)
+{
+    char text[200]; uint64_t n = 0; napi_value v;
+    if (wasmloop_ended_text(ending, trap, used, text, sizeof text - 1, &n) != WASMLOOP_OK) n = 0;
     napi_create_string_latin1(env, text, host_line(text, sizeof text, n), &v);
     return v;
 }
@@ -117,7 +148,9 @@ static napi_value ended_of(napi_env env, thing *t, const wasmloop_ended *e, uint
     set(env, o, "ending", number(env, e->ending));
     set(env, o, "trap", number(env, e->trap));
     set(env, o, "used", big(env, e->used));
-    if (e->ending) set(env, o, "where", told(env, &t->handle));
+    if (!e->ending) return o;
+    set(env, o, "why", why(env, e->ending, e->trap, e->used));
+    set(env, o, "where", told(env, &t->handle));
     return o;
 }
 
@@ -204,7 +237,7 @@ static void execute(napi_env env, void *at)
 
 static napi_value about_of(napi_env env, thing *t, uint32_t over)
 {
-    napi_value o; wasmloop_about a; const uint8_t *at; uint64_t n;
+    napi_value o, why; wasmloop_about a; const uint8_t *at; uint64_t n;
     wasmloop_job_about(&t->handle, &a);
     napi_create_object(env, &o);
     set(env, o, "over", number(env, over));
@@ -212,7 +245,13 @@ static napi_value about_of(napi_env env, thing *t, uint32_t over)
     set(env, o, "value", number(env, (double)(int32_t)a.value));
     set(env, o, "used", big(env, a.used));
     if (wasmloop_job_view(&t->handle, &at, &n) == WASMLOOP_OK) set(env, o, "reply", buffer(env, at, n));
-    else set(env, o, "where", told(env, &t->handle));
+    else {
+        char text[200];
+        if (wasmloop_outcome_text(a.outcome, a.value, a.used, text, sizeof text - 1, &n) != WASMLOOP_OK) n = 0;
+        napi_create_string_latin1(env, text, host_line(text, sizeof text, n), &why);
+        set(env, o, "why", why);
+        set(env, o, "where", told(env, &t->handle));
+    }
     return o;
 }
 
@@ -240,7 +279,7 @@ static void complete(napi_env env, napi_status s, void *at)
     if (k->s == WASMLOOP_OK) napi_resolve_deferred(env, k->done, k->call ? ended_of(env, k->of, &k->e, k->over) : about_of(env, k->of, k->over));
     else {
         napi_create_string_utf8(env, wasmloop_status_name(k->s), NAPI_AUTO_LENGTH, &code);
-        napi_create_string_utf8(env, "wasmloop", NAPI_AUTO_LENGTH, &text);
+        napi_create_string_utf8(env, wasmloop_status_text(k->s), NAPI_AUTO_LENGTH, &text);
         napi_create_error(env, code, text, &error);
         napi_reject_deferred(env, k->done, error);
     }
@@ -294,7 +333,7 @@ static napi_value read_memory(napi_env env, napi_callback_info info)
     thing *t = get(env, v[0]); napi_value o; void *at; size_t n;
     if (!t) return NULL;
     n = u32(env, v[2]);
-    if (n > 64 * 65536 || napi_create_buffer(env, n, &at, &o) != napi_ok) return fail(env, "RANGE", "RANGE");
+    if (n > 64 * 65536 || napi_create_buffer(env, n, &at, &o) != napi_ok) return status(env, WASMLOOP_RANGE, NULL);
     return status(env, wasmloop_read(&t->handle, u32(env, v[1]), at, n), o);
 }
 
@@ -335,6 +374,7 @@ static napi_value turn_for(napi_env env, napi_callback_info info)
     set(env, o, "ending", number(env, t->told.did.ending));
     set(env, o, "wait", number(env, over ? t->told.wait == WASMLOOP_FOREVER ? -1 : (double)t->told.wait : 0));
     set(env, o, "used", big(env, t->told.did.used));
+    if (over && t->told.did.ending) set(env, o, "why", why(env, t->told.did.ending, t->told.did.trap, t->told.did.used));
     if (over && (t->told.did.what == WASMLOOP_FAILED || t->told.did.ending)) set(env, o, "where", told(env, &t->handle));
     if (over && t->told.did.what == WASMLOOP_RAN && t->told.did.emits && wasmloop_emits(&t->handle, emits, 64, &n) == WASMLOOP_OK) {
         napi_create_array(env, &a);
@@ -380,7 +420,7 @@ static napi_value request(napi_env env, napi_callback_info info)
 
 static napi_value init(napi_env env, napi_value exports)
 {
-    static const struct { const char *name; napi_callback f; } all[] = { { "load", load }, { "type", type_of }, { "instance", instance }, { "callAt", call_at }, { "words", words }, { "last", last },
+    static const struct { const char *name; napi_callback f; } all[] = { { "load", load }, { "type", type_of }, { "exports", exports_of }, { "instance", instance }, { "callAt", call_at }, { "words", words }, { "last", last },
         { "pool", pool }, { "stop", stop }, { "quit", quit }, { "job", job }, { "read", read_memory }, { "write", write_memory }, { "loop", loop }, { "turnFor", turn_for }, { "nextJob", next_job },
         { "accept", accept_job }, { "send", async_send }, { "request", request }, { "cancel", cancel } };
     for (size_t i = 0; i < sizeof all / sizeof *all; i++) {

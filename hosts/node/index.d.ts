@@ -23,6 +23,8 @@ export class Module {
   constructor(bytes: Uint8Array);
   /** The type of an exported function, each parameter and result by its number of bits; null if there is none. */
   type(name: string): { params: (32 | 64)[]; results: (32 | 64)[] } | null;
+  /** The exports, in the module's order. */
+  readonly exports: { name: string; kind: 'function' | 'table' | 'memory' | 'global' }[];
   instance(limits?: Limits): Instance;
   loop(options?: LoopOptions): Loop;
   /** Runs uv_work on fresh memory, on the thread pool. */

@@ -8,8 +8,10 @@ const MOST_WORK = 32;                                       // of a loop at a ti
 const ENDINGS = ['return', 'trap', 'depth', 'spent'], OUTCOMES = ['not run', 'done', 'trap', 'depth', 'spent', 'memory'];
 
 class Stopped extends Error {
-  constructor(why, told) { super(`${why}${told.where ? ', ' + told.where : ''}`); this.name = 'Stopped'; this.ending = why; this.where = told.where; this.used = told.used; }
+  constructor(ending, told) { super(`${told.why ?? ending}${told.where ? ', ' + told.where : ''}`); this.name = 'Stopped'; this.ending = ending; this.where = told.where; this.used = told.used; }
 }
+
+const takes = (name, { params: { length } }) => new TypeError(`${name} takes ${length} argument${length === 1 ? '' : 's'}`);
 
 async function pooled(signal, it, ...call) {               // runs on libuv's pool, in slices; an AbortSignal ends it between two
   if (signal?.aborted) throw signal.reason;
@@ -27,6 +29,11 @@ class Module {
   constructor(bytes) { this.#handle = native.load(bytes); }
   get handle() { return this.#handle; }
   type(name) { return native.type(this.#handle, name); }
+  get exports() { return native.exports(this.#handle, 2 ** 32 - 1); }
+  functions() {                                            // for a sentence: a module may export very many
+    const names = native.exports(this.#handle, 200).filter(({ kind }) => kind === 'function').map(({ name }) => JSON.stringify(name.slice(0, 100)).slice(1, -1));
+    return names.length ? `the module exports ${names.slice(0, 20).join(', ')}${names.length > 20 ? ', ..' : ''}` : 'the module exports no function';
+  }
   instance(limits) { return new Instance(this, limits); }
   loop(options) { return new Loop(this, options); }
   async work(operation, bytes = new Uint8Array(0), { fuel = 1e6, depth = 64, signal } = {}) {
@@ -41,7 +48,7 @@ class Instance {
   constructor(module, { fuel = 1e6, depth = 64 } = {}) { this.#module = module; this.#handle = native.instance(module.handle, fuel, depth); this.#words = native.words(this.#handle); this.fuel = fuel; this.depth = depth; }
   #of(name, args) {
     const type = this.#type(name);
-    if (args.length !== type.params.length) throw new TypeError(`${name} takes ${type.params.length} arguments`);
+    if (args.length !== type.params.length) throw takes(name, type);
     return [type, args.map((x, i) => type.params[i] === 32 ? (x >>> 0) : BigInt.asUintN(64, BigInt(x)))];
   }
   #result(type, told) {
@@ -52,12 +59,12 @@ class Instance {
   #type(name) {
     let type = this.#types.get(name);
     if (type === undefined) { type = this.#module.type(name); this.#types.set(name, type); }
-    if (!type) throw new TypeError(`no function ${name}`);
+    if (!type) throw new TypeError(`no function ${name}: ${this.#module.functions()}`);
     return type;
   }
   call(name, ...args) {                                    // no object is made on the way
     const type = this.#type(name), n = args.length;
-    if (n !== type.params.length) throw new TypeError(`${name} takes ${type.params.length} arguments`);
+    if (n !== type.params.length) throw takes(name, type);
     for (let i = 0; i < n; i++) this.#words[i] = type.params[i] === 32 ? BigInt(args[i] >>> 0) : BigInt(args[i]);
     if (native.callAt(this.#handle, type.at, n)) return this.#result(type, native.last(this.#handle));
     if (type.results.length === 0) return undefined;

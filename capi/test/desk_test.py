@@ -309,7 +309,8 @@ def misspelt() -> None:
     """A word that is no command and no tool names those that are near."""
     listed = subprocess.run([sys.argv[1], "help"], capture_output=True, check=False).stdout.decode()
     same("the commands", re.findall(r"(?m)^  ([a-z]+)  ", listed), list(__main__.COMMANDS))
-    for words, told in (("profil x", "profil is no command and no tool; do you mean profile?"), ("serv x", "serv is no command and no tool; do you mean serve?"),
+    for words, told in (("profil x", "profil is no command and no tool; do you mean profile?"),
+                        ("serv x", "serv is no command and no tool; do you mean serve?"),
                         ("recrd", "recrd is no command and no tool; do you mean record?"), ("xyz", "xyz is no command and no tool")):
         ran = subprocess.run([sys.executable, "-m", "wasmloop", *words.split()], capture_output=True, check=False)
         same(words, (ran.returncode, ran.stderr.decode()), (2, f"wasmloop: {told}\n"))

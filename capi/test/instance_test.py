@@ -109,8 +109,8 @@ with warnings.catch_warnings(record=True) as told:
     assert not told
     its = start.instance()
     assert [(each.category, each.filename) for each in told] == [(w.InertImports, __file__)] and start.shape().imports == 1, told
-    assert str(told[0].message).startswith('the module imports 1 function of "uv", which return -1 in an instance: '
-                                      "use call_bytes for in_copy and out_set, a Loop for "), told[0]
+    why = 'the module imports 1 function of "uv", which return -1 in an instance: use call_bytes for in_copy and out_set, a Loop for '
+    assert str(told[0].message).startswith(why), told[0]
 with its:
     assert its.call("global") == 7 and its.call("bump", 100) is None and its.call("global") == 107 and its.call("asks") == -1
     assert its.value("count") == 107 and its.value("wide") == -2

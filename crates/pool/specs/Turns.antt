@@ -9,7 +9,7 @@ use Rattle.board.specs.Boards.{PassView, Puts}
 use Rattle.board.specs.declared.line.Named.{Named}
 
 -- A worker's turn with one job. Dropped: its request could not be started, and it was dropped uncalled. Put: it was started and called,
--- and this reply was put. GivenUp: it was started and called, and this reply was not put, as the board was closed
+-- and this reply was put. GivenUp: it was started and called, and this reply was not put; by tests, only as the board was closed
 pub data Turn : Type 0 where
   Dropped : (ticket : Ticket) → Turn
   Put : (reply : Reply) → Turn

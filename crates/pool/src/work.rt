@@ -46,7 +46,7 @@ pub fn work_one<G: Gate, R: Wait>(
     let ticket = job.ticket;
     gate.at(Point::Taken, ticket);
     if !claims.start(seat, ticket) {
-        gate.at(Point::Dropped, ticket);
+        gate.drops(ticket);
         return WorkerDid::Dropped(ticket);
     }
     gate.at(Point::Started, ticket);
@@ -65,8 +65,8 @@ pub fn work_one<G: Gate, R: Wait>(
 /// Works until the board is found closed, with no job in hand, and sleeps while no job is there. A reply that the board
 /// refuses is put again, each time that one of its loop is collected, until that works or the board is closed.
 ///
-/// All that it did with its pass and its seat are its turns: each job that it took it started, called, and put its reply, once, or
-/// dropped it uncalled; only at the end a reply may be given up.
+/// All that it did with its pass and its seat are its turns: each job that it took it started, called, and put its reply, once, or gave the
+/// reply up (by tests, only as the board was closed), or dropped it uncalled.
 pub fn work_until_closed<G: Gate, R: Wait>(
     rt: &R,
     board: &Board,

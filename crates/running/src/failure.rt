@@ -142,7 +142,7 @@ fn tell_refusal<E: Write>(
         Some(account) => writeln!(err, "{account}"),
         None => writeln!(
             err,
-            "the {what} has more than {} bytes (strip it with wasm-ld --strip-all)",
+            "the {what} has more than {} bytes (strip it with wasm-ld --strip-debug)",
             Grouped(MAX_MODULE_BYTES as u64)
         ),
     }

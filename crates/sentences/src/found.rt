@@ -196,7 +196,7 @@ pub fn limit(bytes: &[u8], at: usize, part: Option<Part>) -> Option<Reason> {
     // (the whole length is looked at before all else, whatever the byte behind the last one lies in)
     if bytes.len() > MAX_MODULE_BYTES {
         return Some(Reason::longer_than(MAX_MODULE_BYTES as u64).with(
-            "strip it with wasm-ld --strip-all",
+            "strip it with wasm-ld --strip-debug",
         ));
     }
     match part? {

@@ -1,8 +1,8 @@
 // At which byte a module is refused by its form, and for what.
 
-ghost use Rattle.std.specs.Prelude.{IfOk, IfSome};
+ghost use Rattle.std.specs.Prelude.{◌≡◌, IfOk, IfSome};
 ghost use Rattle.loader.specs.declared.refusal.Refusal.TheVariants.{Decode};
-ghost use Rattle.sentences.specs.RefusalPlaces.{IsToldOf};
+ghost use Rattle.sentences.specs.RefusalPlaces.{byte_of_fault, IsToldOf};
 
 use crate::found;
 use crate::memory::{RefusedText, malformed_at};
@@ -38,6 +38,17 @@ fn reason_of(bytes: &[u8], refused: MalformedAt, part: Option<Part>) -> Option<R
     }
 }
 
+/// The byte whose part is told: that of the fault; where a part ends too soon, the last one before it.
+fn byte_in_part(refused: MalformedAt) -> usize
+    ensures { result ≡ byte_of_fault refused.fault refused.at }
+{
+    let MalformedAt { fault, at } = refused;
+    match fault {
+        DecodeFault::End => at.saturating_sub(1),
+        _ => at,
+    }
+}
+
 /// The byte at which the bytes are refused for this fault, the part in which it or what is missing there lies, and what is found.
 pub fn undecoded(
     alloc: Global,
@@ -52,14 +63,12 @@ pub fn undecoded(
     if refused.fault != fault {
         return Ok(None);
     }
-    let at = refused.at;
-    let last = match refused.fault {
-        DecodeFault::End => at.saturating_sub(1),
-        _ => at,
-    };
-    let part = part_with(bytes, last);
+    let part = part_with(bytes, byte_in_part(refused));
     Ok(Some(Finding {
-        place: Place::Byte { at, part },
+        place: Place::Byte {
+            at: refused.at,
+            part,
+        },
         defect: None,
         reason: reason_of(bytes, refused, part),
     }))

@@ -56,10 +56,19 @@ impl<R: Wait, W: Watch> Gate for Watched<'_, R, W> {
         let (rt, worker_no) = (self.rt, self.worker_no);
         match point {
             Point::Taken => self.watch.take(rt, worker_no, loop_no, request),
-            Point::Dropped => self.watch.start(rt, worker_no, loop_no, request, false),
             Point::Started => self.watch.start(rt, worker_no, loop_no, request, true),
             Point::Finished | Point::Replied => {}
         }
+    }
+
+    fn drops(&self, ticket: Ticket) {
+        self.watch.start(
+            self.rt,
+            self.worker_no,
+            ticket.loop_no,
+            ticket.request,
+            false,
+        );
     }
 
     fn replies(&self, reply: &Reply) {

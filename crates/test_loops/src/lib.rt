@@ -4,6 +4,8 @@
 #[cfg(test)]
 mod asking;
 #[cfg(test)]
+mod cancelling;
+#[cfg(test)]
 mod edges;
 #[cfg(test)]
 mod guests;

@@ -9,7 +9,7 @@ use std::test::Fail;
 
 /// `uv_main` asks for work by operation 5 on three bytes. `uv_work` gives its operation and one more, `uv_after_work` emits
 /// kind and code.
-const ASKS: &str = "011b0560037f7f7f017f60017e017f60000060017f017f60037f7f7f00
+pub const ASKS: &str = "011b0560037f7f7f017f60017e017f60000060017f017f60037f7f7f00
     021b020275760a71756575655f776f726b000002757604656d69740001
     030403020304
     0503010001

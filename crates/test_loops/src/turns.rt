@@ -5,7 +5,7 @@ use crate::telling::{check_told, next, steps};
 use desk::Desk;
 use events::did::Hint;
 use imports::EntryPoint;
-use limits::{MAX_ASYNCS, MAX_BYTES, MAX_DEPTH};
+use limits::{MAX_ASYNCS, MAX_BYTES, MAX_DEPTH, MAX_REQUESTS};
 use order::{Order, Reply};
 use phases::{Accepted, LoopCore};
 use std::alloc::{AllocError, Global};
@@ -42,6 +42,12 @@ pub enum Turn {
     Send(u32),
     /// The next order is handed out, in place of one that was.
     Order,
+    /// Whether no order is left is printed.
+    NoOrder,
+    /// A worker starts the request of the order that was handed out last.
+    Start,
+    /// The request of this number is cancelled.
+    Cancel(u32),
     /// The reply of the order that was handed out last is offered.
     Answer,
     /// The reply of that order with another value in this field is offered.
@@ -110,6 +116,18 @@ fn tell_send(text: &mut String, taken_in: bool) -> Result<(), Fail> {
     Ok(())
 }
 
+fn tell_start(text: &mut String, is_started: bool) -> Result<(), Fail> {
+    next(text)?;
+    write!(text, "start {is_started}")?;
+    Ok(())
+}
+
+fn tell_cancel(text: &mut String, answer: i32) -> Result<(), Fail> {
+    next(text)?;
+    write!(text, "cancel {answer}")?;
+    Ok(())
+}
+
 impl Driven {
     fn take_all(&mut self, turns: &[Turn], text: &mut String) -> Result<(), Fail> {
         for turn in turns {
@@ -125,6 +143,9 @@ impl Driven {
             Turn::Hint => tell_hint(text, self.core.hint()),
             Turn::Send(async_no) => self.send(async_no, text),
             Turn::Order => self.take_order(),
+            Turn::NoOrder => self.ask_order(text),
+            Turn::Start => self.start(text),
+            Turn::Cancel(request) => tell_cancel(text, self.core.cancel(request)),
             Turn::Answer => self.answer(text),
             Turn::AnswerOther(field) => self.answer_other(field, text),
         }
@@ -138,6 +159,23 @@ impl Driven {
     fn take_order(&mut self) -> Result<(), Fail> {
         self.order = self.core.next_order();
         Ok(())
+    }
+
+    fn ask_order(&mut self, text: &mut String) -> Result<(), Fail> {
+        self.take_order()?;
+        let word = match &self.order {
+            Some(_) => "an order",
+            None => "no order",
+        };
+        tell_word(text, word)
+    }
+
+    fn start(&mut self, text: &mut String) -> Result<(), Fail> {
+        let order = self.copy()?;
+        if order.slot as usize >= MAX_REQUESTS {
+            return Err(Fail::from("no such slot"));
+        }
+        tell_start(text, self.core.start(order.slot, order.request))
     }
 
     fn send(&mut self, async_no: u32, text: &mut String) -> Result<(), Fail> {

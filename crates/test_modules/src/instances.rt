@@ -5,7 +5,7 @@ use crate::rows::{RowTeller, check_rows, check_told_of, shows};
 use instance::access::AccessSize::{self, Eight, Four, One, Two};
 use instance::fault::InstFault;
 use instance::memory::Memory;
-use instance::state::{Instance, State};
+use instance::state::Instance;
 use std::alloc::{AllocError, Global};
 use std::fmt::Debug;
 use std::process::Abort;
@@ -45,9 +45,9 @@ fn tell<T: Debug + Drop>(text: &mut String, answer: T) -> Result<(), AllocError>
 }
 
 /// What the memory has to say of its growth.
-fn tell_grown(text: &mut String, state: &mut State, delta: u32) -> Result<(), AllocError> {
-    let grown = state.grow(delta).cast_signed();
-    write!(text, "{grown} of {}; ", state.size())
+fn tell_grown(text: &mut String, instance: &mut Instance, delta: u32) -> Result<(), AllocError> {
+    let grown = instance.grow(delta).cast_signed();
+    write!(text, "{grown} of {}; ", instance.size())
 }
 
 fn tell_copied(
@@ -62,40 +62,43 @@ fn tell_copied(
     tell(text, there.then_some(&*into))
 }
 
-fn take(text: &mut String, state: &mut State, turn: Turn) -> Result<(), AllocError> {
+fn take(text: &mut String, instance: &mut Instance, turn: Turn) -> Result<(), AllocError> {
     match turn {
-        Grow(delta) => tell_grown(text, state, delta),
-        Load(address, offset, size) => tell(text, state.load(address, offset, size)),
+        Grow(delta) => tell_grown(text, instance, delta),
+        Load(address, offset, size) => tell(text, instance.load(address, offset, size)),
         Store(address, offset, size, number) => {
-            tell(text, state.store(address, offset, size, number).is_some())
+            tell(
+                text,
+                instance.store(address, offset, size, number).is_some(),
+            )
         }
-        Length => tell(text, state.memory().len()),
-        Read(at, length) => tell(text, state.memory_mut().read(at, length)),
-        Copy(at, length) => tell_copied(text, state.memory(), at, length),
-        Write(at, bytes) => tell(text, state.memory_mut().write(at, bytes)),
-        Element(index) => tell(text, state.element(index)),
-        Get(index) => tell(text, state.global(index)),
-        Set(index, value) => tell(text, state.set_global(index, value)),
+        Length => tell(text, instance.memory().len()),
+        Read(at, length) => tell(text, instance.memory_mut().read(at, length)),
+        Copy(at, length) => tell_copied(text, instance.memory(), at, length),
+        Write(at, bytes) => tell(text, instance.memory_mut().write(at, bytes)),
+        Element(index) => tell(text, instance.element(index)),
+        Get(index) => tell(text, instance.global(index)),
+        Set(index, value) => tell(text, instance.set_global(index, value)),
     }
 }
 
-fn take_all(text: &mut String, state: &mut State, turns: &[Turn]) -> Result<(), AllocError> {
+fn take_all(text: &mut String, instance: &mut Instance, turns: &[Turn]) -> Result<(), AllocError> {
     for turn in turns {
-        take(text, state, *turn)?;
+        take(text, instance, *turn)?;
     }
     Ok(())
 }
 
-fn told_by(alloc: Global, state: &mut State, turns: &[Turn]) -> Result<String, AllocError> {
+fn told_by(alloc: Global, instance: &mut Instance, turns: &[Turn]) -> Result<String, AllocError> {
     let mut text = String::new(alloc);
-    take_all(&mut text, state, turns)?;
+    take_all(&mut text, instance, turns)?;
     Ok(text)
 }
 
 /// What an instance of this module answers in these turns.
 fn told_of(alloc: Global, valid: &Valid, turns: &[Turn]) -> Result<String, Fail> {
     let mut instance = Instance::new(alloc, valid)?;
-    let told = told_by(alloc, &mut instance.state, turns);
+    let told = told_by(alloc, &mut instance, turns);
     drop(instance);
     Ok(told?)
 }

@@ -9,7 +9,6 @@ use crate::jobs::Jobs;
 use crate::scenes::{Scene, played};
 use crate::showing::shows;
 use claims::Ticket;
-use order::Reply;
 use pool::{Gate, Point};
 use std::sync::Wait;
 use std::sync::atomic::{AtomicU64, Ordering};
@@ -52,8 +51,6 @@ impl Gate for HoldAt {
             self.wait_for(&self.let_go);
         }
     }
-
-    fn replies(&self, _reply: &Reply) {}
 }
 
 /// What was seen of request 1: whether it was posted, what two tries to cancel it answered, what the worker did, whether

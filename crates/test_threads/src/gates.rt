@@ -2,7 +2,6 @@
 
 use board::Board;
 use claims::Ticket;
-use order::Reply;
 use pool::{Gate, Point};
 use std::thread;
 
@@ -11,8 +10,6 @@ pub struct OpenGate;
 
 impl Gate for OpenGate {
     fn at(&self, _point: Point, _ticket: Ticket) {}
-
-    fn replies(&self, _reply: &Reply) {}
 }
 
 /// A gate that holds one request once it is started, until the board is closed, for at most 1,000,000 turns.
@@ -34,6 +31,4 @@ impl Gate for UntilClosed<'_> {
             thread::yield_now();
         }
     }
-
-    fn replies(&self, _reply: &Reply) {}
 }

@@ -1,7 +1,7 @@
 use Rattle.std.proofs.Common.{ℕ, ◌≡◌, ◌+◌, ◌*◌, ◌≤◌, length, ap, arith}
 use Rattle.limits.specs.declared.TheConstants.{PAGE_SIZE}
 use Rattle.instance.specs.declared.access.AccessSize.{AccessSize}
-use Rattle.instance.specs.declared.access.AccessSize.TheVariants.{One, Two, Four, Eight}
+use Rattle.instance.specs.declared.access.AccessSize.TheVariants.{One}
 use Rattle.instance.specs.Store.{MemoryInstance, byte_count}
 use Rattle.instance.proofs.Fronts.{number_behind, length_is}
 use Rattle.instance.proofs.memory.Memory.load_behind.Goals as goal

@@ -32,11 +32,11 @@ refuses .ci/nightly tools/check.sh
 refuses dist/update.sh --help
 refuses dist/update.sh log --help
 
-# commit SUBJECT: the layout of a tree whose last commit has this subject
+# commit SUBJECT: what is said of a tree whose last commit has this subject
 commit() {
     cd "$room/tree" || return
     { git init && git -c user.name=it -c user.email=it -c commit.gpgsign=false commit --allow-empty -m "$1"; } > "$room/log" 2>&1
-    "$top/tools/check.sh" layout
+    "$top/tools/check.sh" subject
     local ended=$?
     cd "$top" || return
     return $ended

@@ -2,7 +2,7 @@
 # What can be said of a change without a proof, in about a minute of a processor: layout, the last commit's subject, the pages beside the tree,
 # scripts and C files. The gate (.ci/run) does the rest. As a hook before each commit: ln -s ../../tools/check.sh .git/hooks/pre-commit
 #
-# usage: tools/check.sh [layout]       ends with 1 if anything is wrong; a program that isn't there is left out, and said
+# usage: tools/check.sh [layout | subject]       ends with 1 if anything is wrong; a program that isn't there is left out, and said
 set -u
 cd "$(git rev-parse --show-toplevel 2>/dev/null || echo "${0%/*}/..")" || exit 1
 wrong=0
@@ -11,12 +11,19 @@ try() { "$@" || { echo "FAILED: $*"; wrong=1; }; }
 # the files of git with one of these endings
 files() { git ls-files -- "$@"; }
 
-if has rattle; then find crates -name out -prune -o \( -name '*.rt' -o -name '*.antt' \) -exec rattle fmt --check {} + || wrong=1; fi
+layout() {
+    if has rattle; then find crates -name out -prune -o \( -name '*.rt' -o -name '*.antt' \) -exec rattle fmt --check {} + || wrong=1; fi
+}
 # (a hook runs before the commit that it is of, which may mend the last one's subject; a checkout for a pull request is a merge)
-subject=$(git log -1 --format=%s 2>/dev/null)
-case ${GIT_INDEX_FILE:+hook}$subject in hook* | 'Merge '*) subject= ;; esac
-if [ "$(printf %s "$subject" | LC_ALL=C.UTF-8 wc -m)" -gt 72 ]; then echo "FAILED: the last commit's subject has more than 72 letters: $subject"; wrong=1; fi
-[ "${1:-}" != layout ] || exit $wrong
+subject() {
+    told=$(git log -1 --format=%s 2>/dev/null)
+    case ${GIT_INDEX_FILE:+hook}$told in hook* | 'Merge '*) return ;; esac
+    [ "$(printf %s "$told" | LC_ALL=C.UTF-8 wc -m)" -le 72 ] || { echo "FAILED: the last commit's subject has more than 72 letters: $told"; wrong=1; }
+}
+
+case ${1:-} in layout | subject) "$1"; exit $wrong ;; esac
+layout
+subject
 if has python3; then try tools/compare.sh; fi
 try git diff --check HEAD
 if has shellcheck; then files '*.sh' wasmloop .ci/run .ci/nightly | xargs shellcheck --severity=warning || wrong=1; fi

@@ -59,8 +59,9 @@ def stopped(file: str, ran: bytes, debug: bytes, wanted: Dict[int, int]) -> None
         for op, line in list(wanted.items())[::10]:
             given = bytes(range(1, 9)) * 2
             plain, reply = silent.work(op, given), told.work(op, given)
-            same(f"the reply of trap {op} without its line", plain, reply._replace(line=""))
-            same(f"the line of trap {op}", re.findall(f"{file}:([0-9]+)", reply.line)[:1], [str(line)])
+            without = reply._replace(line="", where=re.sub(r" \[[^]]*\]", "", reply.where))
+            same(f"the reply of trap {op} without its lines", plain, without)
+            same(f"the line of trap {op}", [re.findall(f"{file}:([0-9]+)", it)[:1] for it in (reply.line, reply.where)], [[str(line)]] * 2)
             same(f"the words of trap {op}", [str(ended_by(it)).count(f"{file}:{line}") > 0 for it in (reply, plain)], [True, False])
 
 

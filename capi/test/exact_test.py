@@ -40,6 +40,9 @@ def of_libraries(names: Sequence[str]) -> Iterator[Asked]:
 
 def of_crates(program: pathlib.Path, folder: pathlib.Path, names: Sequence[str]) -> Iterator[Asked]:
     """The same of these crates."""
+    if names and not crates.CARGO.exists():
+        print(f"left out: crates of Rust: there is no {crates.CARGO}")
+        return
     for name in names:
         made = crates.module(program, folder, name)
         if made is None:

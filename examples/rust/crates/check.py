@@ -19,6 +19,7 @@ from typing import Mapping, Union
 HERE = pathlib.Path(__file__).resolve().parent
 EXAMPLES = HERE.parent.parent
 TARGET = "wasm32-unknown-unknown"
+CARGO = pathlib.Path("/usr/bin/cargo")
 DEBIAN = ["--config", 'source.crates-io.replace-with="debian"', "--config", 'source.debian.directory="/usr/share/cargo/registry"']
 GPL = pathlib.Path("/usr/share/common-licenses/GPL-3").read_bytes()
 MARKDOWN = b"# T\n\nsome *text* with `code` and [a](b)\n\n| a | b |\n|---|---|\n| 1 | ~~2~~ |\n\n1. x\n2. y\n   - z\n\n> q\n\n```\nfn\n```\n" * 40
@@ -56,7 +57,7 @@ def build(folder: pathlib.Path, name: str, library: bool, *words: str) -> pathli
     profile = '[profile.release]\nlto = true\npanic = "abort"\nstrip = "debuginfo"\n'
     (folder / "Cargo.toml").write_text(f'[package]\nname = "guest"\nversion = "0.1.0"\nedition = "2021"\n{kind}[dependencies]\n{dependencies(name)}\n{profile}')
     env = os.environ | {"RUSTC": "/usr/bin/rustc", "CARGO_TARGET_DIR": str(folder / "target")}
-    done = run("/usr/bin/cargo", "build", "-q", "--release", "--offline", *words, *DEBIAN, cwd=folder, env=env)
+    done = run(CARGO, "build", "-q", "--release", "--offline", *words, *DEBIAN, cwd=folder, env=env)
     if done.returncode and b"no matching package" in done.stderr:
         return None
     if done.returncode:

@@ -119,21 +119,27 @@ static napi_value exports_of(napi_env env, napi_callback_info info)
     return list;
 }
 
+/* a text that a call has copied, as one line; empty if its status says that it has not */
+static napi_value line(napi_env env, int s, char *text, size_t room, uint64_t n)
+{
+    napi_value v;
+    napi_create_string_latin1(env, text, host_line(text, room, s == WASMLOOP_OK ? n : 0), &v);
+    return v;
+}
+
 static napi_value told(napi_env env, wasmloop_handle *of)
 {
-    char text[1000]; uint64_t n = 0; napi_value v;
-    if (wasmloop_stop_told(NULL, 0, of, text, sizeof text - 1, &n) != WASMLOOP_OK) n = 0;
-    napi_create_string_latin1(env, text, host_line(text, sizeof text, n), &v);
-    return v;
+    char text[1000]; uint64_t n = 0;
+    int s = wasmloop_stop_told(NULL, 0, of, text, sizeof text - 1, &n);
+    return line(env, s, text, sizeof text, n);
 }
 
 /* how a run ended, in words */
 static napi_value why(napi_env env, uint32_t ending, uint32_t trap, uint64_t used)
 {
-    char text[200]; uint64_t n = 0; napi_value v;
-    if (wasmloop_ended_text(ending, trap, used, text, sizeof text - 1, &n) != WASMLOOP_OK) n = 0;
-    napi_create_string_latin1(env, text, host_line(text, sizeof text, n), &v);
-    return v;
+    char text[200]; uint64_t n = 0;
+    int s = wasmloop_ended_text(ending, trap, used, text, sizeof text - 1, &n);
+    return line(env, s, text, sizeof text, n);
 }
 
 static napi_value ended_of(napi_env env, thing *t, const wasmloop_ended *e, uint32_t over)
@@ -237,7 +243,7 @@ static void execute(napi_env env, void *at)
 
 static napi_value about_of(napi_env env, thing *t, uint32_t over)
 {
-    napi_value o, why; wasmloop_about a; const uint8_t *at; uint64_t n;
+    napi_value o; wasmloop_about a; const uint8_t *at; uint64_t n;
     wasmloop_job_about(&t->handle, &a);
     napi_create_object(env, &o);
     set(env, o, "over", number(env, over));
@@ -247,9 +253,8 @@ static napi_value about_of(napi_env env, thing *t, uint32_t over)
     if (wasmloop_job_view(&t->handle, &at, &n) == WASMLOOP_OK) set(env, o, "reply", buffer(env, at, n));
     else {
         char text[200];
-        if (wasmloop_outcome_text(a.outcome, a.value, a.used, text, sizeof text - 1, &n) != WASMLOOP_OK) n = 0;
-        napi_create_string_latin1(env, text, host_line(text, sizeof text, n), &why);
-        set(env, o, "why", why);
+        int s = wasmloop_outcome_text(a.outcome, a.value, a.used, text, sizeof text - 1, &n);
+        set(env, o, "why", line(env, s, text, sizeof text, n));
         set(env, o, "where", told(env, &t->handle));
     }
     return o;

@@ -3,12 +3,12 @@
 use crate::guests::{loop_at_desk, with_custom_section};
 use crate::telling::{check_told, next, steps};
 use desk::Desk;
-use events::did::Hint;
 use imports::EntryPoint;
 use limits::{MAX_ASYNCS, MAX_BYTES, MAX_DEPTH, MAX_REQUESTS};
 use order::{Order, Reply};
 use phases::{Accepted, LoopCore};
 use std::alloc::{AllocError, Global};
+use std::fmt::Debug;
 use std::process::Abort;
 use std::sync::Arc;
 use std::test::Fail;
@@ -98,33 +98,10 @@ fn tell_word(text: &mut String, word: &str) -> Result<(), Fail> {
     Ok(())
 }
 
-fn tell_clock(text: &mut String, ms: u64) -> Result<(), Fail> {
+/// A word, and what was answered.
+fn tell<T: Debug + Drop>(text: &mut String, word: &str, answer: T) -> Result<(), Fail> {
     next(text)?;
-    write!(text, "clock {ms}")?;
-    Ok(())
-}
-
-fn tell_hint(text: &mut String, hint: Hint) -> Result<(), Fail> {
-    next(text)?;
-    write!(text, "hint {hint:?}")?;
-    Ok(())
-}
-
-fn tell_send(text: &mut String, taken_in: bool) -> Result<(), Fail> {
-    next(text)?;
-    write!(text, "send {taken_in}")?;
-    Ok(())
-}
-
-fn tell_start(text: &mut String, is_started: bool) -> Result<(), Fail> {
-    next(text)?;
-    write!(text, "start {is_started}")?;
-    Ok(())
-}
-
-fn tell_cancel(text: &mut String, answer: i32) -> Result<(), Fail> {
-    next(text)?;
-    write!(text, "cancel {answer}")?;
+    write!(text, "{word} {answer:?}")?;
     Ok(())
 }
 
@@ -139,13 +116,13 @@ impl Driven {
     fn take(&mut self, turn: Turn, text: &mut String) -> Result<(), Fail> {
         match turn {
             Turn::Steps(count) => self.steps(count, text),
-            Turn::Clock(ms) => tell_clock(text, self.core.clock(ms)),
-            Turn::Hint => tell_hint(text, self.core.hint()),
+            Turn::Clock(ms) => tell(text, "clock", self.core.clock(ms)),
+            Turn::Hint => tell(text, "hint", self.core.hint()),
             Turn::Send(async_no) => self.send(async_no, text),
             Turn::Order => self.take_order(),
             Turn::NoOrder => self.ask_order(text),
             Turn::Start => self.start(text),
-            Turn::Cancel(request) => tell_cancel(text, self.core.cancel(request)),
+            Turn::Cancel(request) => tell(text, "cancel", self.core.cancel(request)),
             Turn::Answer => self.answer(text),
             Turn::AnswerOther(field) => self.answer_other(field, text),
         }
@@ -175,14 +152,14 @@ impl Driven {
         if order.slot as usize >= MAX_REQUESTS {
             return Err(Fail::from("no such slot"));
         }
-        tell_start(text, self.core.start(order.slot, order.request))
+        tell(text, "start", self.core.start(order.slot, order.request))
     }
 
     fn send(&mut self, async_no: u32, text: &mut String) -> Result<(), Fail> {
         if async_no as usize >= MAX_ASYNCS {
             return Err(Fail::from("no such async"));
         }
-        tell_send(text, self.core.sent(async_no))
+        tell(text, "send", self.core.sent(async_no))
     }
 
     /// The order that was handed out last.
